@@ -1,10 +1,12 @@
 //! The journal of a shared session.
 
-ghost use Rattle.std.specs.Prelude.{◌≡◌, ◌⊎◌, [], false, IfErr, IfOk, OnErr, OnOk};
+ghost use Rattle.std.specs.Prelude.{◌≡◌, ◌⊎◌, [], false, length, true, IfErr, IfOk, OnErr, OnOk};
 ghost use Rattle.persist.specs.Noted.{applied};
 ghost use Rattle.lasting.specs.Lasting.{EndsAtMomentOf, HasMoments, HasMomentsUntil, IsKept};
 ghost use Rattle.session.specs.Keeping.{SessionGoesOn};
 ghost use Rattle.session.specs.Promises.{KeepsNumbers};
+ghost use Rattle.witness.specs.Counts.{IsCountOf};
+ghost use Rattle.witness.specs.Rule.{Begins};
 ghost use Rattle.workers.specs.Moments.{GoesOnLater, IsMomentOf};
 ghost use Rattle.workers.specs.Seats.{AreAllInOrder, AreSeatsRecorded};
 
@@ -16,7 +18,7 @@ use std::alloc::Global;
 use std::marker::Model;
 use std::sync::Wait;
 use words::Refusal;
-use workers::{Handed, Naming, Seat, Shared};
+use workers::{Handed, Marked, Naming, Seat, Shared};
 
 /// The journal of a shared session, with the one who hands its changes on. Changes that were handed on and could not be
 /// appended are pending, and appended first the next time.
@@ -81,6 +83,54 @@ impl<J: Naming, F: Appender + Drop> Journaled<J, F> {
         ensures moments { HasMomentsUntil J.first self.now.last self.now.journal }
     {
         &self.journal
+    }
+
+    /// How many changes were handed on, those that are pending among them.
+    pub fn count(&self) -> u64
+        ensures { IsCountOf result (length self.now.handed) }
+    {
+        self.handed.count()
+    }
+
+    /// Whether all changes that were marked were handed on. All comes back as it was.
+    pub fn has_handed<R: Wait>(
+        self,
+        rt: &R,
+        shared: &Shared<J>,
+        marked: Marked<J>,
+    ) -> (Self, Marked<J>, bool)
+        ensures handed { result.2 ≡ true → Begins marked self.handed }
+        ensures same { result.0 ≡ self }
+        ensures mark { result.1 ≡ marked }
+    {
+        let Journaled {
+            handed,
+            pending,
+            journal,
+        } = self;
+        let (handed, marked, has) = shared.has_handed(rt, handed, marked);
+        let journaled = Journaled {
+            handed,
+            pending,
+            journal,
+        };
+        (journaled, marked, has)
+    }
+
+    /// Whether the journal has every change that was handed on.
+    pub fn has_all(&self) -> bool
+        ensures all { result ≡ true → self.now.pending ≡ [] }
+        ensures words { result ≡ true
+            → self.now.journal.words ≡ applied self.now.handed J.first.broker.words.kept }
+    {
+        self.pending.is_empty()
+    }
+
+    /// Whether it is known to keep all that was appended.
+    pub fn keeps_all(&self) -> bool
+        ensures { result ≡ true → self.now.journal.kept ≡ self.now.journal.size }
+    {
+        self.journal.kept() == self.journal.size()
     }
 
     /// Appends what is pending, if anything is. It is refused as [`Journal::append`] is, and then it stays pending.
@@ -184,7 +234,7 @@ impl<J: Naming, F: Appender + Drop> Journaled<J, F> {
         ensures kept { OnOk result (self.new.journal.kept ≡ self.new.journal.size) }
         ensures going { OnOk result (self.old.journal.failed ≡ false → self.new.journal.failed ≡ false) }
     {
-        if self.journal.kept() == self.journal.size() {
+        if self.keeps_all() {
             return Ok(());
         }
         self.keep()

@@ -1,11 +1,12 @@
 //! The journal of a shared session where its storage has it.
 
-ghost use Rattle.std.specs.Prelude.{◌≡◌, [], false, is_err, true, IfOk, OnErr, OnOk};
+ghost use Rattle.std.specs.Prelude.{◌≡◌, ◌<◌, ◌≤◌, [], false, is_err, length, true, IfOk, OnErr, OnOk};
 ghost use Rattle.persist.specs.Noted.{applied};
 ghost use Rattle.lasting.specs.Lasting.{EndsAtMomentOf, HasMoments};
 ghost use Rattle.lasting.specs.Settling.{HasSettled, IsKeptBy};
 ghost use Rattle.session.specs.Keeping.{SessionGoesOn};
 ghost use Rattle.session.specs.Promises.{KeepsNumbers};
+ghost use Rattle.witness.specs.Rule.{Begins};
 ghost use Rattle.workers.specs.Moments.{IsMomentOf};
 ghost use Rattle.workers.specs.Seats.{AreAllInOrder, AreSeatsRecorded};
 
@@ -18,7 +19,7 @@ use std::alloc::Global;
 use std::marker::Model;
 use std::sync::Wait;
 use words::Refusal;
-use workers::{Handed, Naming, Seat, Shared};
+use workers::{Handed, Marked, Naming, Seat, Shared};
 
 /// How many bytes of frames a journal has at least when it is compacted.
 pub const LEAST_FRAMES: u64 = 0x100_0000;
@@ -102,6 +103,40 @@ impl<J: Naming, F: Appender + Drop> Settler<J, F> {
         ensures { result ≡ self.now.failed }
     {
         self.failed
+    }
+
+    /// Whether what the policy is to have kept is kept.
+    fn is_kept_by_policy(&self) -> bool
+        ensures { result ≡ true → IsKeptBy self.now.policy self.now }
+    {
+        match self.policy {
+            Policy::Always => self.journaled.keeps_all(),
+            Policy::EachSecond | Policy::Never => true,
+        }
+    }
+
+    /// Whether every change that was handed on is settled, as after a settle that was answered Ok.
+    fn has_settled(&self) -> bool
+        ensures settled { result ≡ true → HasSettled J.first self.now }
+        ensures going { result ≡ true → self.now.failed ≡ false }
+    {
+        !self.failed
+            && self.journaled.has_all()
+            && !self.journaled.journal().has_failed()
+            && self.is_kept_by_policy()
+    }
+
+    /// How many changes are settled, where every one is that was handed on; else 0.
+    pub fn settled(&self) -> u64
+        ensures part { result ≤ length self.now.kept.handed }
+        ensures settled { 0 < result → HasSettled J.first self.now }
+        ensures going { 0 < result → self.now.failed ≡ false }
+    {
+        if self.has_settled() {
+            self.journaled.count()
+        } else {
+            0
+        }
     }
 
     /// The journal goes on as its present words on a fresh device, which takes the place of the one in use. Where it
@@ -271,6 +306,83 @@ impl<J: Naming, F: Appender + Drop> Settler<J, F> {
         }
         let settled = settler.compact_if_long(alloc, storage);
         (settler, settled)
+    }
+
+    /// Whether all changes that were marked were handed on. All comes back as it was.
+    fn has_handed<R: Wait>(
+        self,
+        rt: &R,
+        shared: &Shared<J>,
+        marked: Marked<J>,
+    ) -> (Self, Marked<J>, bool)
+        ensures handed { result.2 ≡ true → Begins marked self.kept.handed }
+        ensures same { result.0 ≡ self }
+        ensures mark { result.1 ≡ marked }
+    {
+        let Settler {
+            journaled,
+            policy,
+            enough,
+            failed,
+        } = self;
+        let (journaled, marked, has) = journaled.has_handed(rt, shared, marked);
+        let settler = Settler {
+            journaled,
+            policy,
+            enough,
+            failed,
+        };
+        (settler, marked, has)
+    }
+
+    /// Settles, and then says whether all was handed on that was marked, as it was where it had been noted before.
+    fn settle_marked<R: Wait, S: Storage<F>>(
+        self,
+        rt: &R,
+        alloc: Global,
+        shared: &Shared<J>,
+        storage: &S,
+        marked: Marked<J>,
+    ) -> (Self, Marked<J>, Result<(), Failed>)
+        ensures settled { OnOk result.2 (HasSettled J.first result.0) }
+        ensures marked { OnOk result.2 (Begins marked result.0.kept.handed) }
+        ensures policy { result.0.policy ≡ self.policy }
+        ensures mark { result.1 ≡ marked }
+        ensures over { self.failed ≡ true → (result.0 ≡ self) × (is_err result.2 ≡ true) }
+    {
+        let (settler, settled) = self.settle(rt, alloc, shared, storage);
+        let (settler, marked, has) = settler.has_handed(rt, shared, marked);
+        if has {
+            (settler, marked, settled)
+        } else {
+            (settler, marked, Err(Failed))
+        }
+    }
+
+    /// Settles as [`Settler::settle`] does, where not all that was marked is settled. At Ok the journal has all changes
+    /// that were marked: those that were handed on go on from them.
+    pub fn settle_up_to<R: Wait, S: Storage<F>>(
+        self,
+        rt: &R,
+        alloc: Global,
+        shared: &Shared<J>,
+        storage: &S,
+        marked: Marked<J>,
+    ) -> (Self, Marked<J>, Result<(), Failed>)
+        ensures settled { OnOk result.2 (HasSettled J.first result.0) }
+        ensures marked { OnOk result.2 (Begins marked result.0.kept.handed) }
+        ensures policy { result.0.policy ≡ self.policy }
+        ensures mark { result.1 ≡ marked }
+        ensures over { self.failed ≡ true → (result.0 ≡ self) × (is_err result.2 ≡ true) }
+    {
+        if !self.has_settled() {
+            return self.settle_marked(rt, alloc, shared, storage, marked);
+        }
+        let (settler, marked, has) = self.has_handed(rt, shared, marked);
+        if has {
+            return (settler, marked, Ok(()));
+        }
+        settler.settle_marked(rt, alloc, shared, storage, marked)
     }
 
     /// Keeps all that was appended, whatever the policy is. Where the device fails, it goes on as

@@ -8,11 +8,12 @@ use devices::Failed;
 use journal_file::{Appender, Storage};
 use settling::Settles;
 use std::alloc::Global;
-use std::sync::atomic::{AtomicBool, Ordering};
+use std::sync::atomic::{AtomicBool, AtomicU64, Ordering};
 use std::sync::{Mutex, Wait};
 use std::thread::sleep;
 use std::time::{Clock, Duration};
-use workers::{Naming, Shared};
+use witness::is_among;
+use workers::{Marked, Naming, Shared};
 
 /// How long the thread that keeps each second rests at once: a stop waits for it no longer.
 const NAP_MILLIS: u64 = 50;
@@ -37,32 +38,47 @@ impl<J: Naming, F: Appender + Drop> Place<J, F> {
         }
     }
 
-    /// It settles, and answers also whether it has failed for good.
+    /// Whether whoever is there has failed for good.
+    fn has_failed(&self) -> bool {
+        match &self.settler {
+            Some(settler) => settler.has_failed(),
+            None => unreachable!(),
+        }
+    }
+
+    /// How many changes are settled, as [`Settler::settled`] says.
+    fn settled(&self) -> u64 {
+        match &self.settler {
+            Some(settler) => settler.settled(),
+            None => unreachable!(),
+        }
+    }
+
+    /// It settles up to a mark.
     fn settle<R: Wait, S: Storage<F>>(
         &mut self,
         rt: &R,
         alloc: Global,
         shared: &Shared<J>,
         storage: &S,
-    ) -> (Result<(), Failed>, bool) {
+        marked: Marked<J>,
+    ) -> Result<(), Failed> {
         let Some(settler) = self.settler.take() else {
             unreachable!()
         };
-        let (settler, settled) = settler.settle(rt, alloc, shared, storage);
-        let failed = settler.has_failed();
+        let (settler, _marked, settled) = settler.settle_up_to(rt, alloc, shared, storage, marked);
         self.settler = Some(settler);
-        (settled, failed)
+        settled
     }
 
-    /// It keeps all that was appended, and answers also whether it has failed for good.
-    fn keep_up<S: Storage<F>>(&mut self, alloc: Global, storage: &S) -> (Result<(), Failed>, bool) {
+    /// It keeps all that was appended.
+    fn keep_up<S: Storage<F>>(&mut self, alloc: Global, storage: &S) -> Result<(), Failed> {
         let Some(mut settler) = self.settler.take() else {
             unreachable!()
         };
         let kept = settler.keep_up(alloc, storage);
-        let failed = settler.has_failed();
         self.settler = Some(settler);
-        (kept, failed)
+        kept
     }
 }
 
@@ -75,6 +91,8 @@ pub struct SharedJournal<'a, J: Naming, F: Appender + Drop, S: Storage<F>> {
     storage: &'a S,
     policy: Policy,
     failed: AtomicBool,
+    /// How many changes were settled when the lock of the place was held last.
+    settled: AtomicU64,
     /// This lock is taken before the session's. It is held while the device works, so that a thread sleeps for it.
     place: Mutex<Place<J, F>>,
 }
@@ -86,9 +104,13 @@ impl<'a, J: Naming, F: Appender + Drop, S: Storage<F>> SharedJournal<'a, J, F, S
         shared: &'a Shared<J>,
         storage: &'a S,
         settler: Settler<J, F>,
-    ) -> Self {
+    ) -> Self
+        ensures shared { result.shared.now ≡ shared.now }
+        ensures policy { result.policy ≡ settler.policy }
+    {
         let policy = settler.policy();
         let failed = AtomicBool::new(settler.has_failed());
+        let settled = AtomicU64::new(settler.settled());
         let place = Mutex::new(Place {
             settler: Some(settler),
         });
@@ -98,17 +120,22 @@ impl<'a, J: Naming, F: Appender + Drop, S: Storage<F>> SharedJournal<'a, J, F, S
             storage,
             policy,
             failed,
+            settled,
             place,
         }
     }
 
     /// The session.
-    pub fn shared(&self) -> &Shared<J> {
+    pub fn shared(&self) -> &Shared<J>
+        ensures { result.now ≡ self.now.shared.now }
+    {
         self.shared
     }
 
     /// The settler's policy.
-    pub fn policy(&self) -> Policy {
+    pub fn policy(&self) -> Policy
+        ensures { result ≡ self.now.policy }
+    {
         self.policy
     }
 
@@ -117,17 +144,19 @@ impl<'a, J: Naming, F: Appender + Drop, S: Storage<F>> SharedJournal<'a, J, F, S
         self.place.into_inner().into_settler()
     }
 
-    /// Says it where the journal has failed for good.
-    fn note(&self, failed: bool) {
-        if failed {
+    /// Says to those who do not have the lock what is settled, and whether the journal has failed for good.
+    fn note(&self, place: &Place<J, F>) {
+        self.settled.store(place.settled(), Ordering::SeqCst);
+        if place.has_failed() {
             self.failed.store(true, Ordering::SeqCst);
         }
     }
 
     /// Keeps all that was appended, as [`Settler::keep_up`] does.
     pub fn keep_up<R: Wait>(&self, rt: &R) -> Result<(), Failed> {
-        let (kept, failed) = self.place.lock(rt).keep_up(self.alloc, self.storage);
-        self.note(failed);
+        let mut place = self.place.lock(rt);
+        let kept = place.keep_up(self.alloc, self.storage);
+        self.note(&place);
         kept
     }
 
@@ -163,16 +192,23 @@ fn rests_a_second<R: Clock>(rt: &R, ended: &AtomicBool) -> bool {
 }
 
 impl<J: Naming, F: Appender + Drop, S: Storage<F>> Settles for SharedJournal<'_, J, F, S> {
-    /// Settles as [`Settler::settle`] does. Where others have settled all, it finds nothing to append and nothing to keep.
+    /// Settles as [`Settler::settle_up_to`] does, up to a mark of all that was noted before. Where others have settled so
+    /// much, as they do while it waits for the lock, it neither appends nor keeps anything. Where that is known before,
+    /// it takes no lock but the session's.
     fn settle<R: Wait>(&self, rt: &R) -> Result<(), Failed> {
         if self.has_failed() {
             return Err(Failed);
         }
-        let (settled, failed) = self
-            .place
-            .lock(rt)
-            .settle(rt, self.alloc, self.shared, self.storage);
-        self.note(failed);
+        let Some(marked) = self.shared.mark_noted(rt) else {
+            // Nothing is handed on of a session whose changes are not noted.
+            return Err(Failed);
+        };
+        if is_among(marked.count(), self.settled.load(Ordering::SeqCst)) {
+            return Ok(());
+        }
+        let mut place = self.place.lock(rt);
+        let settled = place.settle(rt, self.alloc, self.shared, self.storage, marked);
+        self.note(&place);
         settled
     }
 

@@ -40,6 +40,13 @@ impl Notes {
         }
     }
 
+    /// The changes that were noted and not handed out yet.
+    pub fn changes(&self) -> &Vec<Change>
+        ensures { result.now.items ≡ self.now.changes }
+    {
+        &self.changes
+    }
+
     /// Promises room for so many changes more, if there is memory for it.
     pub fn promise(&mut self, changes: usize) -> bool
         ensures more { result ≡ true → self.new ≡ record self.old { promised = self.old.promised + changes } }

@@ -4,3 +4,4 @@ pub mod LastCalls
 pub mod Names
 pub mod Tellings
 pub mod Receipts
+pub mod Marks

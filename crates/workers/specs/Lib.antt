@@ -3,6 +3,7 @@ pub mod Accounts
 pub mod Coming
 pub mod Noting
 pub mod Moments
+pub mod Marks
 pub mod Following
 pub mod Answers
 pub mod Made

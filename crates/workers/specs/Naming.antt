@@ -1,16 +1,17 @@
 -- What names a shared session, and the name of nothing: no roll, and a session that has no queue.
 use Rattle.std.specs.Prelude.{[], None, Option}
 use Rattle.roll.specs.Seated.{TableId}
+use Rattle.witness.specs.Accounts.{LedgerId}
 use Rattle.named.specs.Memory.{words_at_rest}
 use Rattle.named.specs.Brokers.{Brokered}
 use Rattle.session.specs.Sessions.{Sessioned}
 
--- the rolls of a shared session: that of the seats' lists, that of what was done to all of it, where changes of kept
--- words are noted, that of the changes that were handed on, and the agreement on the session as it was then
+-- the rolls of a shared session: that of the seats' lists, and that of what was done to all of it; where changes of kept
+-- words are noted, their ledger; and the agreement on the session as it was when some were handed on last
 pub record Rolls : Type 0 where
   pub lists : TableId
   pub deeds : TableId
-  pub changes : Option TableId
+  pub changes : Option LedgerId
   pub last : TableId
 
 abbrev pub no_table : TableId

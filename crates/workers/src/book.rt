@@ -1,26 +1,57 @@
 //! The changes of kept words, where they are noted.
 
-ghost use Rattle.std.specs.Prelude.{◌≡◌, ◌+◌, ℕ, List, false, true, IfErr, None, OnErr, OnOk};
+ghost use Rattle.std.specs.Prelude.{◌≡◌, ◌+◌, ◌++◌, [], ℕ, List, false, true, IfErr, IfOk, None, OnErr, OnOk};
 ghost use Rattle.persist.specs.Noted.{answer_in, change_in, IsNoted};
 ghost use Rattle.named.specs.Lasting.{steps_left};
 ghost use Rattle.named.specs.Renewing.{HasRoomInEach, IsRenewedAt, IsWhyNotRenewedAt, MayRenew};
 ghost use Rattle.session.specs.Keeping.{SessionGoesOn};
 ghost use Rattle.session.specs.Promises.{KeepsNumbers};
+ghost use Rattle.witness.specs.Rule.{Begins};
 ghost use Rattle.workers.specs.Noting.{HasPromised, IsBookOn, promised_in, with_promised};
 
 use arena::SlotId;
 use notes::Notes;
 use persist::{Change, Noted};
-use roll::{Roll, Token};
 use session::Session;
+use std::alloc::AllocError;
+use witness::{Hander, Ledger};
 use words::Refusal;
 
-/// The changes of kept words: the keeper of those that were handed on, and those that were noted since.
+/// The changes of kept words: the ledger of those that were handed on, and those that were noted since.
 #[derive(Drop)]
 pub(crate) struct Book {
-    pub(crate) roll: Roll<Change>,
-    pub(crate) keeper: Token<Change>,
+    pub(crate) ledger: Ledger<Change>,
     pub(crate) notes: Notes,
+}
+
+impl Book {
+    /// Hands on all that was noted, and notes the next changes in another vector. It fails for want of memory for what
+    /// was promised, and then all stays.
+    pub(crate) fn hand_on(
+        &mut self,
+        hander: Hander<Change>,
+        fresh: Vec<Change>,
+    ) -> (Hander<Change>, Result<Vec<Change>, AllocError>)
+        requires fresh { fresh.items ≡ [] }
+        requires ledger { hander.ledger ≡ self.old.ledger.id }
+        requires told { Begins self.old.ledger.told (self.old.ledger.handed ++ self.old.notes.changes) }
+        ensures batch { IfOk result.1 (λ batch. batch.items ≡ self.old.notes.changes) }
+        ensures before { OnOk result.1 (hander.row ≡ self.old.ledger.handed) }
+        ensures id { OnOk result.1 (self.new.ledger.id ≡ self.old.ledger.id) }
+        ensures handed { IfOk result.1 (λ batch. self.new.ledger.handed ≡ self.old.ledger.handed ++ batch.items) }
+        ensures told { IfOk result.1 (λ batch. self.new.ledger.told ≡ self.old.ledger.handed ++ batch.items) }
+        ensures notes { OnOk result.1 (self.new.notes ≡ record self.old.notes { changes = [] }) }
+        ensures row { IfOk result.1 (λ batch. result.0.row ≡ hander.row ++ batch.items) }
+        ensures hander { result.0.ledger ≡ hander.ledger }
+        ensures same { OnErr result.1 (self.new ≡ self.old) }
+        ensures unmoved { OnErr result.1 (result.0.row ≡ hander.row) }
+    {
+        let Ok(batch) = self.notes.hand_out(fresh) else {
+            return (hander, Err(AllocError));
+        };
+        let hander = self.ledger.hand_on(hander, &batch);
+        (hander, Ok(batch))
+    }
 }
 
 /// Promises room for so many changes more, where changes are noted; if there is memory for it.

@@ -24,6 +24,7 @@ use session::Session;
 use std::alloc::{AllocError, Global};
 use std::marker::Model;
 use std::sync::Mutex;
+use witness::{Hander, Ledger};
 use words::{Client, Refusal};
 
 /// A session that is about to be shared, which has no name yet.
@@ -152,11 +153,11 @@ impl Opened {
         ensures session { IfOk result (λ noting. noting.session ≡ self.session) }
         ensures errors { IfErr result (λ not. (not.refusal ≡ Refusal.NoMemory) × (not.session ≡ self.session)) }
     {
-        match Roll::open(alloc) {
-            Ok((changes, keeper)) => Ok(Noting {
+        match Ledger::open(alloc) {
+            Ok((ledger, hander)) => Ok(Noting {
                 opened: self,
-                changes,
-                keeper,
+                ledger,
+                hander,
             }),
             Err(_) => Err(NotOpened {
                 refusal: Refusal::NoMemory,
@@ -241,13 +242,12 @@ impl Opened {
 #[derive(Drop)]
 pub struct Noting {
     opened: Opened,
-    changes: Roll<Change>,
-    keeper: Token<Change>,
+    ledger: Ledger<Change>,
+    hander: Hander<Change>,
 }
 
 impl Model for Noting {
-    ghost use Rattle.std.specs.Prelude.{[], Some};
-    ghost use Rattle.roll.specs.Rule.{IsKeeper};
+    ghost use Rattle.std.specs.Prelude.{◌≡◌, [], Some};
     ghost use Rattle.workers.specs.Opening.{Unnamed};
 
     ghost Value = { Unnamed };
@@ -256,13 +256,14 @@ impl Model for Noting {
       roll = record {
         lists = o.opened.roll.lists;
         deeds = o.opened.roll.deeds;
-        changes = Some o.changes;
+        changes = Some o.ledger.id;
         last = o.opened.roll.last;
       };
       session = o.opened.session;
     } };
 
-    ghost invariant = { λ o. IsKeeper o.changes [] o.keeper };
+    ghost invariant = { λ o. (o.hander.ledger ≡ o.ledger.id) × (o.hander.row ≡ [])
+        × (o.ledger.handed ≡ []) × (o.ledger.told ≡ []) };
 }
 
 impl Noting {
@@ -280,18 +281,16 @@ impl Noting {
     {
         let Noting {
             opened,
-            changes,
-            mut keeper,
+            ledger,
+            hander,
         } = self;
-        let token = changes.enroll(&mut keeper, &Vec::new(alloc));
         let book = Book {
-            roll: changes,
-            keeper,
+            ledger,
             notes: Notes::new(alloc),
         };
         match opened.shared(alloc, Some(book)) {
             Ok((shared, seats, operator, last)) => {
-                Ok((shared, seats, operator, Handed::new(token, last)))
+                Ok((shared, seats, operator, Handed::new(hander, last)))
             }
             Err(not) => Err(not),
         }

@@ -1,5 +1,6 @@
 -- What lies under the lock is at a moment of its session.
-use Rattle.std.proofs.Common.{List, ℕ, sym, subst}
+use Rattle.std.proofs.Common.{◌≡◌, List, Some, ℕ, slice_get, sym, subst}
+use Rattle.words.specs.declared.call.Client.{Client}
 use Rattle.persist.specs.declared.access.Change.{Change}
 use Rattle.persist.specs.Noted.{applied}
 use Rattle.notes.specs.Noting.{IsMadeBy}
@@ -7,7 +8,9 @@ use Rattle.named.specs.Booting.{AreBootWords}
 use Rattle.session.specs.Sessions.{Sessioned}
 use Rattle.session.specs.Telling.{IsSettledTold}
 use Rattle.workers.specs.Following.{Guarded, IsGuardedWell}
+use Rattle.workers.specs.Marks.{IsMarkedBy}
 use Rattle.workers.specs.Moments.{IsMomentOf}
+use Rattle.workers.specs.declared.entry.Entry.{Entry}
 
 pub moment_of : (all : ℕ) (first : Sessioned) (g : Guarded) (changes : List Change) → IsGuardedWell all first g
     → IsSettledTold g.session → IsMadeBy changes first.broker.words.kept g.session.broker.words.kept
@@ -18,4 +21,16 @@ moment_of all first g changes well told made = record {
   promises = well.promises;
   boots = subst AreBootWords made.words well.promises.broker.boots;
   told = told;
+}
+
+-- and its histories have the list of each client, as its row is
+pub marked_of : (all : ℕ) (first : Sessioned) (g : Guarded) (changes : List Change) (client : Client) (list : List Entry)
+    → IsGuardedWell all first g → IsSettledTold g.session
+    → IsMadeBy changes first.broker.words.kept g.session.broker.words.kept → slice_get g.rows client.0 ≡ Some list
+    → IsMarkedBy first client list changes
+marked_of all first g changes client list well told made known = record {
+  session = g.session;
+  moment = moment_of all first g changes well told made;
+  recorded = (well.followed.each client.0 list known).recorded;
+  named = well.named client.0 list known;
 }

@@ -1,15 +1,14 @@
 -- What is noted of kept words stays right over each act.
-use Rattle.std.proofs.Common.{◌≡◌, ◌<◌, ◌≤◌, ◌+◌, ◌++◌, ◌∷◌, [], ℕ, List, Option, Some, None, Result, Ok, Bool, refl, sym, ap, ◌∙◌, append-nil, subst, arith}
-use Rattle.std.specs.Prelude.{IfSome, IsSome, slice_get, slice_set}
-use Rattle.std.proofs.lemmas.Option.{same_Some}
+use Rattle.std.proofs.Common.{◌≡◌, ◌<◌, ◌≤◌, ◌+◌, ◌++◌, ◌∷◌, [], ℕ, List, Option, Some, None, Result, Ok, Bool, length, refl, sym, ap, ◌∙◌, append-nil, subst, arith}
+use mathlib.Core.List.{append_assoc}
+use Rattle.std.specs.Prelude.{IfSome, IsSome}
 use Rattle.words.specs.declared.refusal.Refusal.{Refusal}
 use Rattle.persist.specs.declared.access.Change.{Change}
 use Rattle.notes.specs.Noting.{IsMadeBy, Noting}
 use Rattle.notes.proofs.Facts.{made_by_none, made_by_notes, noted_none}
-use Rattle.roll.specs.Rule.{IsHolder, IsKeeper, holder, keeper, place_of, row_of, rows_of}
-use Rattle.roll.below.atomic_table.specs.declared.shared.Seat.{Seat}
-use Rattle.roll.specs.declared.law.View.{View}
-use Rattle.roll.specs.Seated.{TableId}
+use Rattle.witness.specs.Accounts.{LedgerId}
+use Rattle.witness.specs.Rule.{Begins}
+use Rattle.witness.proofs.Facts.{begins_further, begins_itself, begins_more}
 use Rattle.words.specs.declared.call.Kind.{Kind}
 use Rattle.arena.specs.declared.broker.SlotId.{SlotId}
 use Rattle.stepper.specs.declared.resume.After.{After}
@@ -21,7 +20,7 @@ use Rattle.named.specs.Brokers.{Brokered, IsBegun, IsStepCreated}
 use Rattle.named.specs.Stopping.{IsRecoveryStep}
 use Rattle.named.specs.declared.recovery.BrokerRecovery.{BrokerRecovery}
 use Rattle.workers.specs.Creating.{IsCreationKnown, creating_after_crash}
-use Rattle.workers.specs.Noting.{HasPromised, IsBooked, IsBookOn, IsBookRight, OfRoll, promised_in, to_create}
+use Rattle.workers.specs.Noting.{HasPromised, IsBooked, IsBookOn, IsBookRight, OfLedger, promised_in, to_create}
 use Rattle.workers.specs.Noting.{with_promised}
 use Rattle.workers.specs.declared.book.Book.{Book}
 use Rattle.workers.specs.declared.locked.Creating.{Creating}
@@ -67,13 +66,22 @@ promised_back changes (Some n) now (Some k) more less =
     let same : n + changes ≡ k + changes = cc (sym more ∙ less) in
     ap (λ (x : ℕ). let o : Option ℕ = Some x in o) (omega (arith, same))
 
-module _ (roll : Option TableId) (first : List ℕ) where
+-- what a mark knows is among what was noted, and that goes on
+told_further : (told handed was now more : List Change) → Begins told (handed ++ was) → now ≡ was ++ more
+    → Begins told (handed ++ now)
+told_further told handed was now more begins behind =
+    begins_further told (handed ++ was) (handed ++ now) begins (record {
+      more = more;
+      is = ap (λ (cs : List Change). handed ++ cs) behind ∙ sym (append_assoc handed was more);
+    })
+
+module _ (roll : Option LedgerId) (first : List ℕ) where
   -- there is room for what a creation may still change
   pub booked_promised : (now : Brokered) (creating : Creating) (book : Option Book)
       → IsBooked roll first now creating book → HasPromised (to_create creating now.creation) (promised_in book)
   booked_promised now creating book is = go roll book is
     where
-      go : (r : Option TableId) (b : Option Book) → IsBooked r first now creating b
+      go : (r : Option LedgerId) (b : Option Book) → IsBooked r first now creating b
           → HasPromised (to_create creating now.creation) (promised_in b)
       go None None is = tt
       go None (Some b) is = absurd is
@@ -86,7 +94,7 @@ module _ (roll : Option TableId) (first : List ℕ) where
       → HasPromised (to_create after new.creation) (promised_in now) → IsBooked roll first new after now
   booked_act old new creating after was now is on has = go roll was now is on has
     where
-      go : (r : Option TableId) (a b : Option Book) → IsBooked r first old creating a
+      go : (r : Option LedgerId) (a b : Option Book) → IsBooked r first old creating a
           → IsBookOn a b old.words.kept new.words.kept → HasPromised (to_create after new.creation) (promised_in b)
           → IsBooked r first new after b
       go None None None is on has = tt
@@ -95,10 +103,11 @@ module _ (roll : Option TableId) (first : List ℕ) where
       go (Some r) None b is on has = absurd is
       go (Some r) (Some a) None is on has = absurd on
       go (Some r) (Some a) (Some b) is on has = record {
-        same = ap (λ (x : Book). x.roll) on.0 ∙ is.same;
-        handed = is.handed;
-        keeper = subst (λ (x : Book). IsKeeper r (is.handed ∷ []) x.keeper) (sym on.0) is.keeper;
-        made = made_by_notes is.handed a.notes.changes b.notes.changes first old.words.kept new.words.kept is.made on.1;
+        same = ap (λ (x : Book). x.ledger.id) on.0 ∙ is.same;
+        told = subst (λ (x : Book). Begins x.ledger.told (x.ledger.handed ++ b.notes.changes)) (sym on.0)
+            (told_further a.ledger.told a.ledger.handed a.notes.changes b.notes.changes on.1.more is.told on.1.behind);
+        made = subst (λ (x : Book). IsMadeBy (x.ledger.handed ++ b.notes.changes) first new.words.kept) (sym on.0)
+            (made_by_notes a.ledger.handed a.notes.changes b.notes.changes first old.words.kept new.words.kept is.made on.1);
         promised = has;
       }
 
@@ -271,94 +280,60 @@ created_first b now name kind some begun = go now.creation some begun
     go (Some creation) some begun =
         subst (λ (x : Creation). left_at x.at ≤ 12) (sym begun.begun) (omega arith)
 
--- the roll, where changes are noted
-pub of_roll : (o : Option TableId) (P : TableId → Type 0) → OfRoll o P → (roll : TableId) × (o ≡ Some roll) × P roll
-of_roll None P is = absurd is
-of_roll (Some roll) P is = (roll, refl, is)
-
--- a book at first
-pub booked_first : (roll : TableId) (now : Brokered) (first : List ℕ) (book : Book) → book.roll ≡ roll
-    → IsKeeper roll ([] ∷ []) book.keeper → book.notes.changes ≡ [] → now.words.kept ≡ first
-    → IsBookRight roll first now Nothing book
-booked_first roll now first book same keeper none words = record {
-  same = same;
-  handed = [];
-  keeper = keeper;
-  made = subst (λ (cs : List Change). IsMadeBy cs first now.words.kept) (sym none)
-      (subst (λ (ws : List ℕ). IsMadeBy [] ws now.words.kept) words (made_by_none now.words.kept));
-  promised = omega arith;
-}
-
--- who hands on what is noted in a book is of its roll
-pub book_of : (o : Option TableId) (first : List ℕ) (now : Brokered) (creating : Creating) (book : Book) (P : TableId → Type 0)
-    → IsBooked o first now creating (Some book) → OfRoll o P
-    → (roll : TableId) × (o ≡ Some roll) × IsBookRight roll first now creating book × P roll
+-- who is of the ledger that the name has, and the book beside it
+pub book_of : (o : Option LedgerId) (first : List ℕ) (now : Brokered) (creating : Creating) (book : Book)
+    (P : LedgerId → Type 0) → IsBooked o first now creating (Some book) → OfLedger o P
+    → (ledger : LedgerId) × (o ≡ Some ledger) × IsBookRight ledger first now creating book × P ledger
 book_of None first now creating book P is of = absurd of
-book_of (Some roll) first now creating book P is of = (roll, refl, is, of)
+book_of (Some ledger) first now creating book P is of = (ledger, refl, is, of)
 
-pub no_book : (o : Option TableId) (first : List ℕ) (now : Brokered) (creating : Creating) (P : TableId → Type 0)
-    → IsBooked o first now creating None → OfRoll o P → ⊥
+pub no_book : (o : Option LedgerId) (first : List ℕ) (now : Brokered) (creating : Creating) (P : LedgerId → Type 0)
+    → IsBooked o first now creating None → OfLedger o P → ⊥
 no_book None first now creating P is of = absurd of
-no_book (Some roll) first now creating P is of = absurd is
+no_book (Some ledger) first now creating P is of = absurd is
+
+-- a book is of the ledger that the name has
+pub book_is : (o : Option LedgerId) (first : List ℕ) (now : Brokered) (creating : Creating) (book : Book)
+    → IsBooked o first now creating (Some book)
+    → (ledger : LedgerId) × (o ≡ Some ledger) × IsBookRight ledger first now creating book
+book_is None first now creating book is = absurd is
+book_is (Some ledger) first now creating book is = (ledger, refl, is)
 
 -- once all is handed on, the changes that were handed on make the kept words
-pub booked_handed : (roll : TableId) (first : List ℕ) (now : Brokered) (creating : Creating) (was book : Book) (row batch : List Change)
-    → (right : IsBookRight roll first now creating was) → right.handed ≡ row
-    → batch ≡ was.notes.changes → book.roll ≡ was.roll → IsKeeper roll ((row ++ batch) ∷ []) book.keeper
-    → book.notes ≡ record was.notes { changes = [] }
-    → IsBookRight roll first now creating book × IsMadeBy (row ++ batch) first now.words.kept
-booked_handed roll first now creating was book row batch right same all roll_is keeper emptied =
-    let made : IsMadeBy (row ++ batch) first now.words.kept =
-    subst (λ (cs : List Change). IsMadeBy (row ++ cs) first now.words.kept) (sym all)
-    (subst (λ (cs : List Change). IsMadeBy (cs ++ was.notes.changes) first now.words.kept) same right.made) in (
+pub booked_handed : (ledger : LedgerId) (first : List ℕ) (now : Brokered) (creating : Creating) (was book : Book)
+    (row batch : List Change) → IsBookRight ledger first now creating was → row ≡ was.ledger.handed
+    → batch ≡ was.notes.changes → book.ledger.id ≡ was.ledger.id → book.ledger.handed ≡ was.ledger.handed ++ batch
+    → book.ledger.told ≡ was.ledger.handed ++ batch → book.notes ≡ record was.notes { changes = [] }
+    → IsBookRight ledger first now creating book × IsMadeBy (row ++ batch) first now.words.kept
+booked_handed ledger first now creating was book row batch right same all id handed told emptied =
+    let made : IsMadeBy (was.ledger.handed ++ batch) first now.words.kept =
+    subst (λ (cs : List Change). IsMadeBy (was.ledger.handed ++ cs) first now.words.kept) (sym all) right.made in (
       record {
-        same = roll_is ∙ right.same;
-        handed = row ++ batch;
-        keeper = keeper;
-        made = subst (λ (n : Noting). IsMadeBy ((row ++ batch) ++ n.changes) first now.words.kept) (sym emptied)
-            (subst (λ (cs : List Change). IsMadeBy cs first now.words.kept) (sym (append-nil (row ++ batch))) made);
+        same = id ∙ right.same;
+        told = subst (λ (cs : List Change). Begins cs (book.ledger.handed ++ book.notes.changes)) (handed ∙ sym told)
+            (begins_more book.ledger.handed book.notes.changes);
+        made = subst (λ (n : Noting). IsMadeBy (book.ledger.handed ++ n.changes) first now.words.kept) (sym emptied)
+            (subst (λ (cs : List Change). IsMadeBy cs first now.words.kept) (sym (append-nil book.ledger.handed))
+            (subst (λ (cs : List Change). IsMadeBy cs first now.words.kept) (sym handed) made));
         promised = subst (λ (n : Noting). to_create creating now.creation ≤ n.promised) (sym emptied) right.promised;
       },
-      made,
+      subst (λ (cs : List Change). IsMadeBy (cs ++ batch) first now.words.kept) (sym same) made,
     )
 
--- the ends of the row of what was handed on
-module _ {S : Type 0} (roll id : TableId) (same : id ≡ roll) (row handed batch : List Change)
-    (before after token result : Seat S (View Change)) (keeps : IsKeeper roll (row ∷ []) before)
-    (holds : IsHolder roll 0 handed token) where
-  place_is : place_of token ≡ 0
-  place_is = ap (λ m. m.0.place) holds.1
-
-  row_is : row_of token ≡ handed
-  row_is = ap (λ m. m.0.row) holds.1
-
-  rows_are : rows_of before ≡ row ∷ []
-  rows_are = ap (λ m. m.0.rows) keeps.1
-
-  pub same_row : slice_get (rows_of before) (place_of token) ≡ Some (row_of token) → row ≡ handed
-  same_row at =
-      same_Some row handed
-      (subst (λ (rows : List (List Change)). slice_get rows 0 ≡ Some handed) rows_are
-      (subst (λ (n : ℕ). slice_get (rows_of before) n ≡ Some handed) place_is
-      (subst (λ (x : List Change). slice_get (rows_of before) (place_of token) ≡ Some x) row_is at)))
-
-  pub keeps_longer : IsKeeper id (slice_set (rows_of before) (place_of token) (row_of token ++ batch)) after
-      → IsKeeper roll ((handed ++ batch) ∷ []) after
-  keeps_longer kept = (
-    kept.0 ∙ same,
-    kept.1 ∙ ap (λ rows. (keeper rows, []))
-        (ap (λ (rows : List (List Change)). slice_set rows (place_of token) (row_of token ++ batch)) rows_are
-        ∙ (ap (λ (n : ℕ). slice_set (row ∷ []) n (row_of token ++ batch)) place_is
-        ∙ ap (λ (x : List Change). (x ++ batch) ∷ []) row_is)),
-  )
-
-  pub holds_longer : IsHolder id (place_of token) (row_of token ++ batch) result → IsHolder roll 0 (handed ++ batch) result
-  holds_longer held = (
-    held.0 ∙ same,
-    held.1
-        ∙ (ap (λ n. (holder n (row_of token ++ batch), [])) place_is
-        ∙ ap (λ (x : List Change). (holder 0 (x ++ batch), [])) row_is),
-  )
-
-  pub knows_itself : IsHolder roll 0 handed token → IsHolder roll 0 (row_of token) token
-  knows_itself held = subst (λ (x : List Change). IsHolder roll 0 x token) (sym row_is) held
+-- a mark is made of all that was noted
+pub booked_marked : (ledger : LedgerId) (first : List ℕ) (now : Brokered) (creating : Creating) (was book : Book)
+    → IsBookRight ledger first now creating was → book.ledger.id ≡ was.ledger.id
+    → book.ledger.handed ≡ was.ledger.handed → book.ledger.told ≡ was.ledger.handed ++ was.notes.changes
+    → book.notes ≡ was.notes → IsBookRight ledger first now creating book
+booked_marked ledger first now creating was book right id handed told notes =
+    let changes : book.notes.changes ≡ was.notes.changes = ap (λ (n : Noting). n.changes) notes in
+    let all : book.ledger.handed ++ book.notes.changes ≡ was.ledger.handed ++ was.notes.changes =
+    ap (λ (cs : List Change). cs ++ book.notes.changes) handed
+    ∙ ap (λ (cs : List Change). was.ledger.handed ++ cs) changes in
+    record {
+      same = id ∙ right.same;
+      told = subst (λ (cs : List Change). Begins cs (book.ledger.handed ++ book.notes.changes)) (all ∙ sym told)
+          (begins_itself (book.ledger.handed ++ book.notes.changes));
+      made = subst (λ (cs : List Change). IsMadeBy cs first now.words.kept) (sym all) right.made;
+      promised = subst (λ (n : Noting). to_create creating now.creation ≤ n.promised) (sym notes) right.promised;
+    }

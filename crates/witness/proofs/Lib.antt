@@ -1,0 +1,4 @@
+mod Beginnings
+mod Tokens
+mod Steps
+pub mod Facts

@@ -1,0 +1,4 @@
+pub use Rattle.atomic_table.specs.Seated
+pub mod Rule
+pub mod Counts
+pub mod Accounts
