@@ -142,8 +142,9 @@ impl<J: Naming, F: Appender + Drop> Journaled<J, F> {
             pending,
             journal,
         } = self;
-        match shared.hand_on(rt, alloc, handed) {
-            (handed, Ok(batch)) => (
+        let (handed, batch) = shared.hand_on(rt, alloc, handed);
+        match batch {
+            Ok(batch) => (
                 Journaled {
                     handed,
                     pending: batch,
@@ -151,7 +152,7 @@ impl<J: Naming, F: Appender + Drop> Journaled<J, F> {
                 },
                 Ok(()),
             ),
-            (handed, Err(refusal)) => (
+            Err(refusal) => (
                 Journaled {
                     handed,
                     pending,
