@@ -1,12 +1,12 @@
 -- What a stop leaves of a journal goes on from what was kept, whatever is done to the journal then.
-use Rattle.std.proofs.Common.{◌≡◌, ◌≢◌, ◌≤◌, ◌++◌, ◌∷◌, [], ℕ, ◌+◌, List, length-append, length, take, refl, sym, ap, ◌∙◌, subst, arith}
+use Rattle.std.proofs.Common.{◌≡◌, ◌++◌, ◌∷◌, [], ℕ, ◌+◌, List, length-append, length, take, sym, ap, ◌∙◌, subst, arith}
 use Rattle.std.proofs.lemmas.List.{take_all}
 use Rattle.persist.specs.declared.access.Change.{Change}
 use Rattle.persist.specs.Noted.{applied}
 use Rattle.journal.specs.Frame.{Batch}
 use Rattle.journal.specs.Journal.{journal_of}
 use Rattle.journal_file.specs.OnDevice.{HasMore, HasNoMore, IsOf, KeepsAll, OnDevice}
-use Rattle.lasting.specs.Lasting.{EndsAtMomentOf, HasMoments, HasMomentsUntil, IsAssured, IsKept, Kept, StaysAssured}
+use Rattle.lasting.specs.Lasting.{EndsAtMomentOf, IsAssured, IsKept, Kept, StaysAssured}
 use Rattle.session.specs.Sessions.{Sessioned}
 use Rattle.workers.specs.Moments.{GoesOnLater, IsMomentOf}
 use Rattle.workers.proofs.Facts.{later_itself, later_still}
