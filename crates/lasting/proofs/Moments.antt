@@ -1,8 +1,10 @@
 -- Batches that each end at a moment, and the later of two moments goes on from the earlier.
-use Rattle.std.proofs.Common.{◌≡◌, ◌≢◌, ◌≤◌, ◌⊎◌, inl, inr, ◌++◌, ◌∷◌, [], ℕ, ◌+◌, Bool, false, eqb, if◌then◌else◌, List, length-append, Some, length, take, refl, sym, ap, ◌∙◌, subst, append-nil, arith}
+use Rattle.std.proofs.Common.{◌≡◌, ◌≢◌, ◌≤◌, ◌⊎◌, inl, inr, ◌++◌, ◌∷◌, [], ℕ, ◌+◌, Bool, false, eqb, if◌then◌else◌, List, length-append, true≢false, Result, Ok, Err, Some, length, take, refl, sym, ap, ◌∙◌, subst, append-nil, arith}
 use Rattle.std.proofs.lemmas.Bool.{cases_eq, eq-eqb, ne_eqb}
 use Rattle.std.proofs.lemmas.List.Sums.{fold-append}
 use Rattle.std.proofs.lemmas.List.{take-append-le, take_all}
+use Rattle.std.specs.Prelude.{OnErr, OnOk, is_err}
+use Rattle.words.specs.declared.refusal.Refusal.{Refusal}
 use Rattle.persist.specs.declared.access.Change.{Change}
 use Rattle.persist.specs.Noted.{applied, change_made}
 use Rattle.journal.specs.Frame.{Batch}
@@ -10,7 +12,7 @@ use Rattle.journal.specs.Journal.{words_after}
 use Rattle.journal.specs.Stops.{LeftByStop}
 use Rattle.journal_file.specs.OnDevice.{HasMore, HasNoMore, IsOf, KeepsAll, OnDevice}
 use Rattle.journal_file.specs.Restart.{ReadsBeginning}
-use Rattle.journal_file.proofs.Restarts.{killed, stopped}
+use Rattle.journal_file.proofs.Facts.{killed, stopped}
 use Rattle.lasting.specs.Lasting.{AreMoments, EndsAtMomentOf, HasMoments, HasMomentsUntil, IsKept, Kept, ReadsMoment}
 use Rattle.session.specs.Promises.{KeepsNumbers}
 use Rattle.session.specs.Sessions.{Sessioned}
@@ -59,7 +61,7 @@ killed_moment first key base batches count j session bytes n moments of going ha
 abbrev pub with_session : (ℕ → Sessioned) → ℕ → Sessioned → ℕ → Sessioned
 with_session session at last n = if eqb n at then last else session n
 
-with_here : (session : ℕ → Sessioned) (at : ℕ) (last : Sessioned) (n : ℕ) → n ≡ at → with_session session at last n ≡ last
+pub with_here : (session : ℕ → Sessioned) (at : ℕ) (last : Sessioned) (n : ℕ) → n ≡ at → with_session session at last n ≡ last
 with_here session at last n same = ap (λ (b : Bool). if b then last else session n) (eq-eqb n at same)
 
 pub with_else : (session : ℕ → Sessioned) (at : ℕ) (last : Sessioned) (n : ℕ) → n ≢ at
@@ -76,7 +78,7 @@ moments_first first last base moment = record {
   later = λ m n less few. later_itself last;
 }
 
-words_after_more : (batches : List Batch) (batch : Batch) (base : List ℕ)
+pub words_after_more : (batches : List Batch) (batch : Batch) (base : List ℕ)
     → words_after (batches ++ batch ∷ []) base ≡ applied batch.changes (words_after batches base)
 words_after_more [] batch base = refl
 words_after_more (other ∷ batches) batch base = words_after_more batches batch (applied other.changes base)
@@ -87,7 +89,7 @@ module _ (first last : Sessioned) (base : List ℕ) (old new : List Batch) (sess
     (is_top : length new ≡ top) (moments : AreMoments first base old session)
     (before : (n : ℕ) → n ≤ length new → n ≢ top → (n ≤ length old) × (take n new ≡ take n old))
     (on : GoesOnLater (session (length old)) last) (moment : IsMomentOf first last (words_after new base)) where
-  abbrev now : ℕ → Sessioned
+  abbrev pub now : ℕ → Sessioned
   now = with_session session top last
 
   all : (n : ℕ) → n ≡ top → take n new ≡ new
@@ -119,7 +121,7 @@ module _ (first last : Sessioned) (base : List ℕ) (old new : List Batch) (sess
       (subst (λ (s : Sessioned). GoesOnLater (session m) s) (sym (with_else session top last n other))
       (moments.later m n less was.0))
 
-  moments_last : AreMoments first base new now
+  pub moments_last : AreMoments first base new now
   moments_last = record {
     each = λ n few. each_now n few (cases_eq n top);
     later = λ m n less few. later_now m n less few (cases_eq m top) (cases_eq n top);
@@ -129,7 +131,7 @@ module _ (first last : Sessioned) (base : List ℕ) (old new : List Batch) (sess
   moments_latest = with_here session top last (length new) is_top
 
 -- one batch more
-batches_before : (batches : List Batch) (batch : Batch) (n : ℕ) → n ≤ length (batches ++ batch ∷ [])
+pub batches_before : (batches : List Batch) (batch : Batch) (n : ℕ) → n ≤ length (batches ++ batch ∷ [])
     → n ≢ length (batches ++ batch ∷ [])
     → (n ≤ length batches) × (take n (batches ++ batch ∷ []) ≡ take n batches)
 batches_before batches batch n few apart =
@@ -138,7 +140,7 @@ batches_before batches batch n few apart =
     (less, take-append-le n batches (batch ∷ []) less)
 
 -- a journal that begins at a moment
-pub begins : (first last : Sessioned) (key base : List ℕ) (j : OnDevice) → IsMomentOf first last base
+abbrev pub begins : (first last : Sessioned) (key base : List ℕ) (j : OnDevice) → IsMomentOf first last base
     → IsOf key base [] 0 j → EndsAtMomentOf first last j
 begins first last key base j moment of = record {
   has = record {
@@ -154,7 +156,7 @@ begins first last key base j moment of = record {
 }
 
 -- one that ends at the moment of a session has moments until then
-pub ends_until : (first last : Sessioned) (j : OnDevice) → EndsAtMomentOf first last j → HasMomentsUntil first last j
+abbrev pub ends_until : (first last : Sessioned) (j : OnDevice) → EndsAtMomentOf first last j → HasMomentsUntil first last j
 ends_until first last j ends = record {
   has = ends.has;
   later = subst (GoesOnLater (ends.has.session (length ends.has.batches))) ends.latest
@@ -162,7 +164,7 @@ ends_until first last j ends = record {
 }
 
 -- one that has a batch more, whose changes lead to a moment
-pub has_more : (first last : Sessioned) (batch : Batch) (old new : OnDevice) → HasMomentsUntil first last old
+abbrev pub has_more : (first last : Sessioned) (batch : Batch) (old new : OnDevice) → HasMomentsUntil first last old
     → HasMore batch old new → IsMomentOf first last (applied batch.changes old.words) → EndsAtMomentOf first last new
 has_more first last batch old new until more moment =
     let has = until.has in
@@ -207,7 +209,7 @@ has_same first was last j ends on moment =
     }
 
 -- the same batches, of which other ones were there when all was last kept
-has_count : (first : Sessioned) (old new : OnDevice) (has : HasMoments first old) (count : ℕ)
+abbrev has_count : (first : Sessioned) (old new : OnDevice) (has : HasMoments first old) (count : ℕ)
     → IsOf has.key has.base has.batches count new → HasMoments first new
 has_count first old new has count of = record {
   key = has.key;
@@ -219,7 +221,7 @@ has_count first old new has count of = record {
   moments = has.moments;
 }
 
-pub until_no_more : (first last : Sessioned) (old new : OnDevice) → HasMomentsUntil first last old → HasNoMore old new
+abbrev pub until_no_more : (first last : Sessioned) (old new : OnDevice) → HasMomentsUntil first last old → HasNoMore old new
     → HasMomentsUntil first last new
 until_no_more first last old new until same =
     let has = until.has in
@@ -237,7 +239,7 @@ ends_no_more first last old new ends same =
       latest = ends.latest;
     }
 
-pub until_kept : (first last : Sessioned) (old new : OnDevice) → HasMomentsUntil first last old → KeepsAll old new
+abbrev pub until_kept : (first last : Sessioned) (old new : OnDevice) → HasMomentsUntil first last old → KeepsAll old new
     → HasMomentsUntil first last new
 until_kept first last old new until keeps =
     let has = until.has in
@@ -327,6 +329,18 @@ kept_kept first k new is keeps words = record {
   journal = until_kept first k.last k.journal new is.journal keeps;
   latest = λ none. ends_kept first k.last k.journal new (is.latest none) keeps;
 }
+
+-- what an answer that is no refusal says
+pub on_ok : {T : Type 0} (P : Type 0) (answer : Result T Refusal) → is_err answer ≡ false → OnOk answer P → P
+on_ok {T} P (Ok done) fine holds = holds
+on_ok {T} P (Err refusal) fine holds = absurd (true≢false fine)
+
+-- by a keep
+pub kept_keeping : {T : Type 0} (first : Sessioned) (k : Kept) (new : OnDevice) (answer : Result T Refusal) → IsKept first k
+    → OnOk answer (KeepsAll k.journal new) → OnErr answer (HasNoMore k.journal new) → new.words ≡ k.journal.words
+    → IsKept first (record { handed = k.handed; last = k.last; pending = k.pending; journal = new })
+kept_keeping {T} first k new (Ok done) is keeps same words = kept_kept first k new is keeps words
+kept_keeping {T} first k new (Err refusal) is keeps same words = kept_no_more first k new is same words
 
 -- more was handed on, where nothing was pending: the moment goes on from that of the hand-on before
 pub kept_more : (first : Sessioned) (k : Kept) (last : Sessioned) (handed batch : List Change) → IsKept first k

@@ -54,17 +54,6 @@ pub record IsKept (first : Sessioned) (k : Kept) : Type 0 where
   pub journal : HasMomentsUntil first k.last k.journal
   pub latest : k.pending ≡ [] → EndsAtMomentOf first k.last k.journal
 
--- it has batches until this session. Whatever a stop leaves of it is read as the words of a moment that goes on from an
--- earlier session: that of the last batch which was there when all was last kept does
-pub record IsAssured (first earlier last : Sessioned) (j : OnDevice) : Type 0 where
-  pub until : HasMomentsUntil first last j
-  pub sure : GoesOnLater earlier (until.has.session until.has.count)
-
--- so it stays, of each earlier session
-abbrev pub StaysAssured : Sessioned → Kept → Kept → Type 0
-StaysAssured first old new =
-    (earlier : Sessioned) → IsAssured first earlier old.last old.journal → IsAssured first earlier new.last new.journal
-
 -- Bytes are read as the words of a moment, after a beginning of the batches that has so many of them at least. Its
 -- session goes on from that of each shorter beginning
 pub record ReadsMoment (first : Sessioned) (key base : List ℕ) (batches : List Batch) (count : ℕ)

@@ -192,8 +192,9 @@ impl<J: Naming, F: Appender + Drop> Journaled<J, F> {
             pending,
             journal,
         } = self;
-        match shared.hand_on(rt, alloc, handed) {
-            (handed, Ok(batch)) => (
+        let (handed, batch) = shared.hand_on(rt, alloc, handed);
+        match batch {
+            Ok(batch) => (
                 Journaled {
                     handed,
                     pending: batch,
@@ -201,7 +202,7 @@ impl<J: Naming, F: Appender + Drop> Journaled<J, F> {
                 },
                 Ok(()),
             ),
-            (handed, Err(refusal)) => (
+            Err(refusal) => (
                 Journaled {
                     handed,
                     pending,

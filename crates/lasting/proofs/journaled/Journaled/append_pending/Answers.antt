@@ -1,6 +1,17 @@
 use Rattle.lasting.specs.Lasting.{Kept}
-use Rattle.lasting.proofs.Moments.{kept_appended}
+use Rattle.lasting.proofs.Moments.{kept_appended, kept_no_more}
 use Rattle.lasting.proofs.journaled.Journaled.append_pending.Goals as goal
+
+pub invariant_of-self : goal.invariant_of-self
+invariant_of-self g c =
+    let old : Kept = record {
+      handed = c.self.inside.handed.changes;
+      last = c.self.inside.handed.last;
+      pending = c.self.inside.pending.items;
+      journal = c.self.inside.journal;
+    } in
+    kept_no_more g.J.Naming.first old c.append.new.self c.self.invariant c.in_err-append.ensures.no_more
+    c.in_err-append.ensures.same
 
 pub invariant_of-self-2 : goal.invariant_of-self-2
 invariant_of-self-2 g c =

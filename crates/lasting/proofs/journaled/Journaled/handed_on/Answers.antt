@@ -1,0 +1,18 @@
+use Rattle.std.proofs.Common.{◌≡◌, [], ap, ◌∙◌}
+use Rattle.lasting.specs.Lasting.{Kept}
+use Rattle.lasting.proofs.Moments.{kept_more}
+use Rattle.lasting.proofs.journaled.Journaled.handed_on.Goals as goal
+
+pub invariant_of-result : goal.invariant_of-result
+invariant_of-result g c =
+    let old : Kept = record {
+      handed = c.self.inside.handed.changes;
+      last = c.self.inside.handed.last;
+      pending = c.self.inside.pending.items;
+      journal = c.self.inside.journal;
+    } in
+    let none : old.pending ≡ [] = ap (λ (k : Kept). k.pending) c.self.view_is ∙ c.requires in
+    let e = c.hand_on-handed.ensures in
+    let is = c.in-Ok.is in
+    kept_more g.J.Naming.first old c.hand_on-handed.result.0.last c.hand_on-handed.result.0.changes c.in-Ok.batch.items
+    c.self.invariant none (rw is at e.row) (rw is at e.moment) (rw is at e.later)

@@ -1,0 +1,9 @@
+use Rattle.std.proofs.Common.{sym, ◌∙◌}
+use Rattle.lasting.specs.Lasting.{EndsAtMomentOf}
+use Rattle.lasting.proofs.Moments.{on_ok}
+use Rattle.lasting.proofs.settler.Settler.close.Goals as goal
+
+pub returns-clause-ends : goal.returns-clause-ends
+returns-clause-ends g c =
+    on_ok (EndsAtMomentOf g.J.Naming.first c.close-session.result.0 c.close-session.result.1) c.close-session.result.2
+    (sym c.is_err.ensures.value ∙ c.if-is_err.false) c.close-session.ensures.ends
