@@ -1,10 +1,7 @@
-use Rattle.std.proofs.Common.{[], ◌≡◌, ◌++◌, List, Option, Some, ap, refl, sym, subst, ◌∙◌}
-use Rattle.persist.specs.declared.access.Change.{Change}
-use Rattle.notes.specs.Noting.{IsMadeBy}
-use Rattle.witness.specs.Accounts.{LedgerId}
-use Rattle.workers.specs.Noting.{IsBooked, OfLedger}
+use Rattle.std.proofs.Common.{◌≡◌, Option, subst}
+use Rattle.workers.specs.Noting.{IsBooked}
 use Rattle.workers.specs.declared.book.Book.{Book}
-use Rattle.workers.proofs.guard.Notes.{book_of, no_book}
+use Rattle.workers.proofs.guard.Notes.{no_book}
 use Rattle.workers.proofs.locked.Locked.hand_on.Goals as goal
 
 pub unreachable-requires : goal.unreachable-requires
