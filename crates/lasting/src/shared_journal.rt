@@ -1,6 +1,8 @@
 //! The journal of a shared session, for the threads that share it.
 
-ghost use Rattle.std.specs.Prelude.{IsSome};
+ghost use Rattle.std.specs.Prelude.{◌≡◌, IfSome, IsSome, OnOk};
+ghost use Rattle.lasting.specs.Settling.{HasSettled};
+ghost use Rattle.witness.specs.Rule.{Begins};
 
 use crate::policy::Policy;
 use crate::settler::Settler;
@@ -62,7 +64,10 @@ impl<J: Naming, F: Appender + Drop> Place<J, F> {
         shared: &Shared<J>,
         storage: &S,
         marked: Marked<J>,
-    ) -> Result<(), Failed> {
+    ) -> Result<(), Failed>
+        ensures settled { OnOk result (IfSome self.new.settler (λ s. HasSettled J.first s)) }
+        ensures marked { OnOk result (IfSome self.new.settler (λ s. Begins marked s.kept.handed)) }
+    {
         let Some(settler) = self.settler.take() else {
             unreachable!()
         };
@@ -99,12 +104,7 @@ pub struct SharedJournal<'a, J: Naming, F: Appender + Drop, S: Storage<F>> {
 
 impl<'a, J: Naming, F: Appender + Drop, S: Storage<F>> SharedJournal<'a, J, F, S> {
     /// This settler's journal, for the session.
-    pub fn new(
-        alloc: Global,
-        shared: &'a Shared<J>,
-        storage: &'a S,
-        settler: Settler<J, F>,
-    ) -> Self
+    pub fn new(alloc: Global, shared: &'a Shared<J>, storage: &'a S, settler: Settler<J, F>) -> Self
         ensures shared { result.shared.now ≡ shared.now }
         ensures policy { result.policy ≡ settler.policy }
     {

@@ -1,11 +1,11 @@
 -- What is noted of kept words stays right over each act.
-use Rattle.std.proofs.Common.{◌≡◌, ◌<◌, ◌≤◌, ◌+◌, ◌++◌, ◌∷◌, [], ℕ, List, Option, Some, None, Result, Ok, Bool, length, refl, sym, ap, ◌∙◌, append-nil, subst, arith}
+use Rattle.std.proofs.Common.{◌≡◌, ◌<◌, ◌≤◌, ◌+◌, ◌++◌, [], ℕ, List, Option, Some, None, Result, Ok, Bool, refl, sym, ap, ◌∙◌, append-nil, subst, arith}
 use mathlib.Core.List.{append_assoc}
 use Rattle.std.specs.Prelude.{IfSome, IsSome}
 use Rattle.words.specs.declared.refusal.Refusal.{Refusal}
 use Rattle.persist.specs.declared.access.Change.{Change}
 use Rattle.notes.specs.Noting.{IsMadeBy, Noting}
-use Rattle.notes.proofs.Facts.{made_by_none, made_by_notes, noted_none}
+use Rattle.notes.proofs.Facts.{made_by_notes, noted_none}
 use Rattle.witness.specs.Accounts.{LedgerId}
 use Rattle.witness.specs.Rule.{Begins}
 use Rattle.witness.proofs.Facts.{begins_further, begins_itself, begins_more}

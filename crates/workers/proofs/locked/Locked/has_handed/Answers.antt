@@ -1,12 +1,7 @@
-use Rattle.std.proofs.Common.{[], ◌≡◌, ◌++◌, List, Option, Some, ap, refl, sym, subst, ◌∙◌}
-use Rattle.persist.specs.declared.access.Change.{Change}
-use Rattle.notes.specs.Noting.{IsMadeBy, Noting}
-use Rattle.witness.specs.Accounts.{LedgerId}
-use Rattle.witness.specs.Rule.{Begins}
-use Rattle.workers.specs.Noting.{IsBooked, OfLedger}
+use Rattle.std.proofs.Common.{◌≡◌, Option, subst}
+use Rattle.workers.specs.Noting.{IsBooked}
 use Rattle.workers.specs.declared.book.Book.{Book}
-use Rattle.workers.proofs.guard.Notes.{book_is, book_of, booked_handed, booked_marked, no_book}
-use Rattle.workers.proofs.guard.Moments.{marked_of, moment_of}
+use Rattle.workers.proofs.guard.Notes.{no_book}
 use Rattle.workers.proofs.locked.Locked.has_handed.Goals as goal
 
 pub unreachable-requires : goal.unreachable-requires

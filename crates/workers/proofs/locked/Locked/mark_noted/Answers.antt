@@ -1,10 +1,8 @@
-use Rattle.std.proofs.Common.{[], ◌≡◌, ◌++◌, List, Option, Some, ap, refl, sym, subst, ◌∙◌}
+use Rattle.std.proofs.Common.{◌++◌, List, Option, Some, ap, refl, sym, subst, ◌∙◌}
 use Rattle.persist.specs.declared.access.Change.{Change}
-use Rattle.notes.specs.Noting.{IsMadeBy}
 use Rattle.witness.specs.Accounts.{LedgerId}
-use Rattle.workers.specs.Noting.{IsBooked, OfLedger}
+use Rattle.workers.specs.Noting.{IsBooked}
 use Rattle.workers.specs.declared.book.Book.{Book}
-use Rattle.workers.proofs.guard.Moments.{marked_of}
 use Rattle.workers.proofs.guard.Notes.{book_is, booked_marked}
 use Rattle.workers.proofs.locked.Locked.mark_noted.Goals as goal
 
