@@ -28,6 +28,7 @@ pub marked_of : (all : ℕ) (first : Sessioned) (g : Guarded) (changes : List Ch
     → IsGuardedWell all first g → IsSettledTold g.session
     → IsMadeBy changes first.broker.words.kept g.session.broker.words.kept → slice_get g.rows client.0 ≡ Some list
     → IsMarkedBy first client list changes
+unfolding moment_of
 marked_of all first g changes client list well told made known = record {
   session = g.session;
   moment = moment_of all first g changes well told made;

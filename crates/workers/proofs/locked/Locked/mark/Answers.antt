@@ -28,6 +28,7 @@ invariant_of-self-2 g c =
         deeds = rows_of c.self.inside.register.keeper;
         creating = c.self.inside.creating;
         rotated = c.self.inside.rotated;
+        last = c.self.inside.last;
       })) (sym (ap (λ m. m.0.rows) k.1)) c.self.invariant.1,
       c.self.invariant.2,
       subst (λ (o : Option LedgerId). IsBooked o g.J.Naming.first.broker.words.kept c.self.inside.session.broker
