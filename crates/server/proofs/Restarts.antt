@@ -1,9 +1,7 @@
 -- A broker that is opened on the kept words of a moment goes on from there, and so does a session over it.
-use Rattle.std.proofs.Common.{◌≡◌, ◌<◌, ◌≤◌, ℕ, Bool, true, false, List, Option, Some, Result, Ok, Err, is_some, nat_lt, take, sym, ap, subst, ◌∙◌, arith}
+use Rattle.std.proofs.Common.{◌≡◌, ◌<◌, ◌≤◌, ℕ, true, false, List, Option, Some, Result, Ok, is_some, nat_lt, take, sym, ap, subst, ◌∙◌, arith}
 use Rattle.std.proofs.lemmas.Bool.{lt-ltb}
 use Rattle.words.specs.declared.call.Client.{Client}
-use Rattle.words.specs.declared.call.Kind.TheVariants.{Log as log_kind}
-use Rattle.words.specs.declared.call.Reply.{Reply}
 use Rattle.words.specs.declared.limits.TheConstants.{MAX_CLIENTS}
 use Rattle.words.specs.declared.refusal.Refusal.{Refusal}
 use Rattle.words.specs.declared.told.Told.{Told}
@@ -16,15 +14,14 @@ use Rattle.directory.specs.Sound.{counts_in}
 use Rattle.interleave.specs.Queue.{told_in, told_to}
 use Rattle.interleave.specs.State.{State}
 use Rattle.interleave.specs.Verdicts.{kept_told}
-use Rattle.named.specs.Booting.{kept_block}
 use Rattle.named.specs.Brokers.{Brokered, admission, answer_if, world_at}
 use Rattle.named.specs.Slots.{answered}
 use Rattle.named.specs.declared.recovery.BrokerRecovery.{BrokerRecovery}
 use Rattle.session.specs.Keeping.{IsSettled, SessionGoesOn, told_when_asked, verdict_heard}
 use Rattle.session.specs.Promises.{KeepsNumbers}
-use Rattle.session.specs.Sessions.{IsLogClient, Sessioned, kept_at}
+use Rattle.session.specs.Sessions.{IsLogClient, Sessioned}
 use Rattle.session.proofs.Facts.{holds_there, open_below}
-use Rattle.workers.specs.Moments.{GoesOnLater, IsMomentOf}
+use Rattle.workers.specs.Moments.{IsMomentOf}
 use Rattle.named.specs.KeptQueues.{IsKeptQueue}
 use Rattle.workers.proofs.Facts.{session_further}
 use Rattle.lasting.specs.Lasting.{ReadsMoment}
