@@ -1,5 +1,5 @@
 -- What crates above may cite of this one's proofs.
-pub use Rattle.directory.proofs.Rows.{names_equal}
+pub use Rattle.directory.proofs.Rows.{names_equal, short_of}
 pub use Rattle.directory.proofs.Creations.{creation_begins, creation_crashed, creation_evicted, creation_goes_on}
 pub use Rattle.directory.proofs.Creations.{creation_less, creation_moves, directory_is, kept_directory, rest_crashed}
 pub use Rattle.directory.proofs.Creations.{rest_evicted, rest_moves, set_here, slot_closed, slot_open}

@@ -34,7 +34,7 @@ pub(crate) fn put_queues<const N: usize>(out: &mut ArrayVec<u8, N>, places: &[Op
     put(out, b"]}");
 }
 
-#[tactic(auto, using(directory::proofs::Rows::short_of))]
+#[tactic(auto, using(directory::proofs::Facts::short_of))]
 fn put_queue<const N: usize>(out: &mut ArrayVec<u8, N>, queue: &Queue)
     requires { array_vec_len out.old + MAX_QUEUE ≤ N }
     ensures text { out.new.items ≡ out.old.items ++ queue_text queue.now }
