@@ -1,10 +1,11 @@
 #!/usr/bin/env python3
-"""Records clients of a `pqd` that goes down under load: python3 record_pqd.py crash|stop|kill PQD | pqx check
+"""Records clients of a `pqd` that goes down under load: python3 record_pqd.py crash|stop|kill|journal PQD | pqx check
 
 Eight clients put into a log queue and take from it. Three times the server goes down, and at last the queue is drained.
     crash    the broker stops with all calls under way, and recovers
     stop     the server ends in order, and another one begins with the image that it wrote
     kill     the server is killed (`kill -9`), and another one begins with the image of its last end in order: here, none
+    journal  the server is killed (`kill -9`), and another one begins with its journal
 Each client goes before it has read the answer to its last put, and asks later what became of that.
 """
 import itertools, json, os, random, socket, subprocess, sys, tempfile, threading, time
@@ -84,10 +85,11 @@ class Client:
         except OSError:
             pass
 
-def started(pqd, image):
+def started(pqd, how, folder):
     """A server and its port, and an operator of it, who sees to it that the queue is there."""
+    option = "--journal" if how == "journal" else "--image"
     server = subprocess.Popen([pqd, "serve", "--port", "0", "--clients", "9", "--records", "4096", "--workers", "16",
-        "--image", image], stdout=subprocess.PIPE, text=True)
+        option, os.path.join(folder, "file")], stdout=subprocess.PIPE, text=True)
     port = int(server.stdout.readline().split(":")[1])
     operator = Client("8")
     operator.connect(port)
@@ -98,15 +100,14 @@ def main():
     how, pqd = sys.argv[1:]
     clients = [Client(str(number)) for number in range(8)]
     with tempfile.TemporaryDirectory() as folder:
-        image = os.path.join(folder, "image")
-        server, port, operator = started(pqd, image)
+        server, port, operator = started(pqd, how, folder)
         for down in range(3):
             now = time.monotonic()
             threads = [threading.Thread(target=client.load, args=(port, now + 0.1 + 0.2 * random.random()))
                 for client in clients]
             [thread.start() for thread in threads]
             time.sleep(0.2)
-            server.kill() if how == "kill" else operator.ask(how)
+            server.kill() if how in ("kill", "journal") else operator.ask(how)
             # Each client has noted every answer that came, before the crash is noted.
             [thread.join() for thread in threads]
             note(op="crash")
@@ -115,7 +116,7 @@ def main():
             else:
                 operator.close()
                 server.wait()
-                server, port, operator = started(pqd, image)
+                server, port, operator = started(pqd, how, folder)
             for client in clients:
                 client.connect(port)
                 client.learn()

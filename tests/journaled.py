@@ -109,13 +109,15 @@ def whole_journal(file, policy):
     require(at == len(STORY), at)
     broker.process.kill()
     broker.end()
-    return Path(file).read_bytes()
+    data = Path(file).read_bytes()
+    cut = journal.reading(data)[2]
+    require(journal.torn(data, cut) == 0, "a tail")
+    return data[:len(data) - cut]
 
 
 def ends_of(data):
     """Where the head and each frame ends."""
-    key, words, cut = journal.reading(data)
-    require(cut == 0, "a tail")
+    key, words, _ = journal.reading(data)
     ends = [len(journal.head_of(key, words))]
     while ends[-1] < len(data):
         changes = int.from_bytes(data[ends[-1] + 16:ends[-1] + 20], "little")
@@ -246,7 +248,9 @@ def with_images(file):
     broker.end()
     require(at == len(STORY), at)
     words = image.words_of(Path(kept).read_bytes())
-    require(journal.reading(Path(file).read_bytes())[1:] == (words, 0), "the journal leaves other words than the image")
+    data = Path(file).read_bytes()
+    _, left, cut = journal.reading(data)
+    require(left == words and journal.torn(data, cut) == 0, "the journal leaves other words than the image")
     clear(file)
     broker = Broker(file, "--image", kept)
     require(len(broker.ask({"op": "list"})["queues"]) == 2, "the image is not begun on")

@@ -8,7 +8,7 @@
 // the file's name ends with `.new`, a `write` and an `fdatasync` of such a file alone, also once it is renamed; with
 // LEAST=N a `write` of N bytes at least.
 //
-// SYNCED names a file that is told what would outlast a loss of power: `file INODE SIZE`, so many bytes of that file;
+// SYNCED names a file that is told what would outlast a loss of power: `file INODE SIZE`, so many written bytes of it;
 // `renamed N`, a file has the name of another one, of which the folder does not know yet, and `folder`, it does. With
 // KEPT the other one stays, behind its name `.N`, the first such one that is free; N is 0 where there was none. It
 // needs no header, so that the kit's compiler is enough.
@@ -22,10 +22,11 @@ extern int atoi(const char *);
 extern int dprintf(int, const char *, ...);
 extern int snprintf(char *, unsigned long, const char *, ...);
 extern int fstat(int, void *);
+extern long lseek(int, long, int);
 extern int link(const char *, const char *);
 extern int *__errno_location(void);
 
-enum { FILES = 64, NO_SPACE = 28, EXISTS = 17, APPENDING = 02102, PATH = 4096, STATUS = 32, INODE = 1, SIZE = 6 };
+enum { FILES = 64, NO_SPACE = 28, EXISTS = 17, APPENDING = 02102, PATH = 4096, STATUS = 32, INODE = 1, HERE = 1 };
 
 static int turns[5];
 static char written[FILES];
@@ -84,11 +85,11 @@ static int told(void) {
     return file;
 }
 
-// Tells that the first so many bytes of a file are kept; all that it has, where `size` is negative.
-static void tell_kept(int file, long size) {
+// Tells that what was written of a file is kept.
+static void tell_kept(int file) {
     unsigned long status[STATUS];
     if (told() >= 0 && fstat(file, status) == 0)
-        dprintf(told(), "file %lu %lu\n", status[INODE], size < 0 ? status[SIZE] : (unsigned long)size);
+        dprintf(told(), "file %lu %ld\n", status[INODE], lseek(file, 0, HERE));
 }
 
 // Keeps a file that is to be replaced, behind its name a number, which this answers; 0 where there is none.
@@ -118,7 +119,7 @@ int open(const char *path, int flags, int mode) {
     int file = opens(path, flags, mode);
     if (file >= 0 && file < FILES)
         written[file] = 1;
-    tell_kept(file, 0);
+    tell_kept(file);
     at("after-open", count);
     return file;
 }
@@ -158,7 +159,7 @@ int fdatasync(int file) {
     if (fails("fdatasync", count))
         return -1;
     int done = syncs(file);
-    tell_kept(file, -1);
+    tell_kept(file);
     at("after-fdatasync", count);
     return done;
 }

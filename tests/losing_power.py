@@ -6,6 +6,7 @@ the story that was played, and goes on with it: of --sync always all that was an
 is wrong."""
 
 import random
+import resource
 import sys
 import tempfile
 import time
@@ -110,7 +111,8 @@ def lost_everywhere(file, policy, keeps, base=None):
             if base:
                 Path(file).write_bytes(base)
             environment = {"KILLED": moment, "TURN": str(turn), "LD_PRELOAD": LIBRARY, "SYNCED": told, "KEPT": "1"}
-            broker = Broker(file, "--sync", policy, most=MOST, **environment)
+            most = resource.RLIM_INFINITY if base else MOST
+            broker = Broker(file, "--sync", policy, most=most, **environment)
             answered = broker.play(len(STORY) if base else 0)
             status, said = broker.end()
             if status == 0:

@@ -86,7 +86,10 @@ class Killed:
         self.players = playing.get()
         self.seen["calls"] += sum(player.calls for player in self.players) - before
 
-    def end_server(self):
+    def end_server(self, is_stopping=False):
+        """Kills it. It has not ended by itself, unless it is stopping."""
+        if not is_stopping and self.server.process.poll() is not None:
+            raise Different(f"the server ended by itself, with status {self.server.process.returncode}")
         self.server.process.send_signal(signal.SIGKILL)
         self.server.process.wait()
         self.server.process.stdout.close()
@@ -141,7 +144,8 @@ class Round(Killed):
         connection = Connection(self.server.port)
         connection.socket.sendall(b'{"op":"stop"}\n')
         time.sleep(10 ** random.uniform(-3.5, 0))
-        self.kill()
+        self.end_server(is_stopping=True)
+        self.seen["kills"] += 1
         connection.close()
         if self.bytes() == self.kept_image:
             self.seen["kills within a stop, old image"] += 1

@@ -151,8 +151,9 @@ class Life(Killed):
         """An orderly stop: the journal leaves the words of the image."""
         self.server.stop()
         self.seen["stops"] += 1
-        _, words, cut = journal.reading(Path(self.journal).read_bytes())
-        if cut != 0 or words != image.words_of(Path(self.image).read_bytes()):
+        data = Path(self.journal).read_bytes()
+        _, words, cut = journal.reading(data)
+        if journal.torn(data, cut) != 0 or words != image.words_of(Path(self.image).read_bytes()):
             raise Different("at a stop the journal leaves other words than the image")
 
     def check(self):

@@ -114,6 +114,11 @@ def reading(data):
         before = data[at - SUM:at]
 
 
+def torn(data, cut):
+    """How many bytes of what is cut off are a torn frame's: those up to the last that is not 0."""
+    return len(data[len(data) - cut:].rstrip(b"\0"))
+
+
 def hides_kept_frame(key, data, place):
     """Whether a whole frame lies behind the place that was written when the bytes there were kept."""
     for at in range(place, len(data)):

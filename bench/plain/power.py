@@ -23,7 +23,7 @@ class Disk:
                 self.renamed = int(numbers[0]) if what == "renamed" else None
 
     def found(self, suffix):
-        """A file beside the journal: all its bytes, and how many are kept; or None."""
+        """A file beside the journal: all its bytes, and how many of those that were written are kept; or None."""
         path = self.file + suffix
         if not os.path.exists(path):
             return None
@@ -38,17 +38,20 @@ class Disk:
 
 
 def left(draw, data, kept):
-    """What may be left of these bytes, of which so many are kept."""
-    yield data[:kept]
-    if kept == len(data):
+    """What may be left of these bytes, of which so many are kept. Zeros at their end, which are room for more, are there
+    or not."""
+    end = max(kept, len(data.rstrip(b"\0")))
+    room = bytes(len(data) - end) if draw.random() < 0.5 else b""
+    yield data[:kept] + room
+    if kept == end:
         return
-    yield data
-    cut = draw.randint(kept, len(data))
+    yield data[:end] + room
+    cut = draw.randint(kept, end)
     yield data[:cut]
-    yield data[:cut] + bytes(len(data) - cut)
-    blocks = bytearray(data)
-    for begin in range(kept // BLOCK * BLOCK, len(data), BLOCK):
+    yield data[:cut] + bytes(end - cut) + room
+    blocks = bytearray(data[:end])
+    for begin in range(kept // BLOCK * BLOCK, end, BLOCK):
         if draw.random() < 0.5:
-            end = min(begin + BLOCK, len(data))
-            blocks[max(begin, kept):end] = bytes(end - max(begin, kept))
-    yield bytes(blocks)
+            until = min(begin + BLOCK, end)
+            blocks[max(begin, kept):until] = bytes(until - max(begin, kept))
+    yield bytes(blocks) + room
