@@ -1,5 +1,6 @@
 -- What is left of a session that connections shared, and of its journal.
-use Rattle.std.proofs.Common.{◌≡◌, List, ℕ, Ok, subst}
+use Rattle.std.proofs.Common.{◌≡◌, List, ℕ, false, true≢false, Result, Ok, Err, subst}
+use Rattle.std.specs.Prelude.{OnOk, is_err}
 use Rattle.journal_file.specs.OnDevice.{OnDevice}
 use Rattle.lasting.specs.Lasting.{EndsAtMomentOf}
 use Rattle.named.specs.Booting.{AreBootWords}
@@ -12,6 +13,11 @@ use Rattle.workers.specs.Seats.{AreSeatsRecorded}
 use Rattle.workers.specs.declared.entry.Entry.{Entry}
 use Rattle.server.specs.Image.{IsImageAfter, IsImageOf}
 use Rattle.server.specs.Journaled.{IsLeftAfter}
+
+-- what an answer that is no refusal says
+pub on_ok : {T E : Type 0} (P : Type 0) (answer : Result T E) → is_err answer ≡ false → OnOk answer P → P
+on_ok {T} {E} P (Ok done) fine holds = holds
+on_ok {T} {E} P (Err refusal) fine holds = absurd (true≢false fine)
 
 -- its image, and its journal with the same words
 pub left_after : {S : Type 0} (list : S → List Entry) (seats : List S) (first last : Sessioned) (b : Brokered)

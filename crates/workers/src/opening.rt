@@ -127,20 +127,18 @@ impl Opened {
             registered(alloc),
             Agreement::open(alloc, &session),
         ) {
-            (
-                Ok((roll, keeper)),
-                Ok((deeds, register)),
-                Ok((last, last_keeper, last_holder)),
-            ) => Ok(Opened {
-                session,
-                roll,
-                keeper,
-                deeds,
-                register,
-                last,
-                last_keeper,
-                last_holder,
-            }),
+            (Ok((roll, keeper)), Ok((deeds, register)), Ok((last, last_keeper, last_holder))) => Ok(
+                Opened {
+                    session,
+                    roll,
+                    keeper,
+                    deeds,
+                    register,
+                    last,
+                    last_keeper,
+                    last_holder,
+                },
+            ),
             _ => Err(NotOpened {
                 refusal: Refusal::NoMemory,
                 session,
