@@ -242,7 +242,7 @@ def in_use(file):
 def with_images(file):
     """A journal begins on an image where there is no journal yet, and an orderly stop leaves the same words in both."""
     clear(file)
-    kept = file + ".image"
+    kept = os.path.join(os.path.dirname(file), "image")
     broker = Broker(file, "--image", kept)
     at = broker.play(0)
     broker.end()
