@@ -166,7 +166,8 @@ def cut_off(file):
     ends = ends_of(data)
     cuts = 0
     for at, (begin, end) in enumerate(zip(ends, ends[1:])):
-        for size in (begin, begin + 1, end - 1):
+        # The first eight bytes are a sum, which is never 0: zeros alone are room, and no torn frame.
+        for size in (begin, begin + 8, end - 1):
             clear(file)
             Path(file).write_bytes(data[:size])
             broker = Broker(file)
