@@ -166,7 +166,8 @@ def cut_off(file):
     ends = ends_of(data)
     cuts = 0
     for at, (begin, end) in enumerate(zip(ends, ends[1:])):
-        for size in (begin, begin + 1, end - 1):
+        # The first eight bytes are a sum, which is never 0: zeros alone are room, and no torn frame.
+        for size in (begin, begin + 8, end - 1):
             clear(file)
             Path(file).write_bytes(data[:size])
             broker = Broker(file)
@@ -242,7 +243,7 @@ def in_use(file):
 def with_images(file):
     """A journal begins on an image where there is no journal yet, and an orderly stop leaves the same words in both."""
     clear(file)
-    kept = file + ".image"
+    kept = os.path.join(os.path.dirname(file), "image")
     broker = Broker(file, "--image", kept)
     at = broker.play(0)
     broker.end()

@@ -5,6 +5,7 @@ renaming of which the folder does not know is undone, or not. A server that begi
 the story that was played, and goes on with it: of --sync always all that was answered. Prints what was seen, and what
 is wrong."""
 
+import multiprocessing
 import random
 import resource
 import sys
@@ -163,16 +164,36 @@ def is_seen(file):
     raise Wrong("--sync never loses nothing")
 
 
-def main():
+def while_played(policy, keeps, left_is):
+    return lambda file: f"--sync {policy}: power lost {lost_everywhere(file, policy, keeps)}: {left_is} is left"
+
+
+def while_begun(policy):
+    return lambda file: (
+        f"a start, --sync {policy}: power lost {lost_everywhere(file, policy, True, whole(file, policy))}: all is left"
+    )
+
+
+ROWS = [
+    while_played("always", True, "all that was answered"),
+    while_played("never", False, "one moment"),
+    while_begun("always"),
+    while_begun("never"),
+    each_second,
+    is_seen,
+]
+
+
+def row(number):
+    """One row, in a folder of its own."""
     with tempfile.TemporaryDirectory() as folder:
-        file = f"{folder}/journal"
-        for policy, keeps, left_is in (("always", True, "all that was answered"), ("never", False, "one moment")):
-            print(f"--sync {policy}: power lost {lost_everywhere(file, policy, keeps)}: {left_is} is left")
-        for policy in ("always", "never"):
-            base = whole(file, policy)
-            print(f"a start, --sync {policy}: power lost {lost_everywhere(file, policy, True, base)}: all is left")
-        print(each_second(file))
-        print(is_seen(file))
+        return ROWS[number](f"{folder}/journal")
+
+
+def main():
+    with multiprocessing.get_context("fork").Pool() as pool:
+        for line in pool.imap(row, range(len(ROWS))):
+            print(line)
 
 
 try:
