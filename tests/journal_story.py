@@ -11,7 +11,7 @@ from pathlib import Path
 
 PQD = sys.argv[1]
 # The calls of the system by which a journal is written.
-CALLS = ("open", "write", "fdatasync", "fsync", "rename")
+CALLS = ("open", "ftruncate", "write", "fdatasync", "fsync", "rename")
 # Where files are full at so many bytes, the journal goes on as a shorter one, some times in a story.
 MOST = 24400
 # When the library tests/killing.c can stop it.

@@ -1,12 +1,12 @@
 // Stands before a program's calls of the system by which it writes files, and kills the program at one of them, as a
 // stop of the machine would, or lets one fail.
 //
-// KILLED names the moment: `open`, `write`, `fdatasync`, `fsync` or `rename`, before it is made, or after it, where
-// KILLED has `after-` before the name; at `within-write` half of the bytes are written. FAILED names a call that fails
-// instead of being made; of a `write` that fails the first byte is written. With TURN=N it is the N-th call of that
-// name, and the first one else; a call behind it that FAILED names fails too, if FAILING is set. An `open` counts where
-// the file's name ends with `.new`, a `write` and an `fdatasync` of such a file alone, also once it is renamed; with
-// LEAST=N a `write` of N bytes at least.
+// KILLED names the moment: `open`, `ftruncate`, `write`, `fdatasync`, `fsync` or `rename`, before it is made, or after
+// it, where KILLED has `after-` before the name; at `within-write` half of the bytes are written. FAILED names a call
+// that fails instead of being made; of a `write` that fails the first byte is written. With TURN=N it is the N-th call
+// of that name, and the first one else; a call behind it that FAILED names fails too, if FAILING is set. An `open`
+// counts where the file's name ends with `.new`, an `ftruncate`, a `write` and an `fdatasync` of such a file alone, also
+// once it is renamed; with LEAST=N a `write` of N bytes at least.
 //
 // SYNCED names a file that is told what would outlast a loss of power: `file INODE SIZE`, so many written bytes of it;
 // `renamed N`, a file has the name of another one, of which the folder does not know yet, and `folder`, it does. With
@@ -28,7 +28,7 @@ extern int *__errno_location(void);
 
 enum { FILES = 64, NO_SPACE = 28, EXISTS = 17, APPENDING = 02102, PATH = 4096, STATUS = 32, INODE = 1, HERE = 1 };
 
-static int turns[5];
+static int turns[6];
 static char written[FILES];
 
 static int turn(void) {
@@ -147,6 +147,19 @@ long write(int file, const void *bytes, unsigned long size) {
     }
     long done = writes(file, bytes, size);
     at("after-write", count);
+    return done;
+}
+
+int ftruncate(int file, long size) {
+    int (*truncates)(int, long) = next("ftruncate");
+    if (!is_written(file))
+        return truncates(file, size);
+    int count = ++turns[5];
+    at("ftruncate", count);
+    if (fails("ftruncate", count))
+        return -1;
+    int done = truncates(file, size);
+    at("after-ftruncate", count);
     return done;
 }
 
