@@ -100,7 +100,9 @@ fn is_want_of_memory(refusal: Refusal) -> bool
 }
 
 impl<J: Naming> Locked<J> {
-    /// What is to lie under the lock, where no seat has been used yet.
+    /// What is to lie under the lock, where no seat has been used yet. It is a call of its own: where LLVM puts it into
+    /// its caller, the session goes to two places of one answer, and LLVM does not come to an end of splitting it.
+    #[inline(never)]
     pub(crate) fn new(
         session: Session,
         keeper: Token<Entry>,
