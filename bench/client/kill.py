@@ -40,6 +40,9 @@ class Remembering(Player):
         self.told_next = {queue: TOLD_NOTHING[kind] for queue, kind in KINDS.items()}
         self.calls = 0
 
+    def resolve(self, connection):
+        """A call that was not answered is not sent again: its server began anew."""
+
     def note(self, connection, request, reply, begin):
         super().note(connection, request, reply, begin)
         self.calls += 1
@@ -53,9 +56,11 @@ class Remembering(Player):
 
 
 def play(player, port, until):
-    """Calls at random until the time is over or the server is killed. The player as it is then."""
+    """Resolves the pending call, and calls at random until the time is over or the server is killed. The player as it
+    is then."""
     try:
         connection = CutConnection(port)
+        player.resolve(connection)
         while player.open and time.monotonic() < until:
             player.call(connection, random.choice(player.open), random.random() < 0.55)
         connection.close()

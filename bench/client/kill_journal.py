@@ -17,11 +17,11 @@ import image
 import journal
 import load
 import orders
-from kill import Killed, live, told_of
+from kill import Killed, live, play, told_of
 from layout import block_size
 from load import CLIENTS, PLAYERS, Connection, Different, Server
 from power import Disk, left
-from resending import Resending, play
+from resending import Resending
 
 RECORDS = int(os.environ.get("RECORDS", 64))
 TURNS = 12

@@ -1,11 +1,10 @@
 """A client over kills: it knows which of its calls has no answer yet, learns what became of it, and sends its number
 again. It keeps lines for a recording of each queue (docs/HISTORIES.md)."""
 
-import random
 import time
 
 import load
-from kill import Cut, CutConnection, Remembering
+from kill import Remembering
 from load import KINDS, Different
 
 NOT_TAKEN = {"told": "nottaken"}
@@ -115,17 +114,3 @@ class Resending(Remembering):
         self.seen["kept replies, sent again"] += 1
         self.note(connection, request, reply, begin)
         self.pending = None
-
-
-def play(player, port, until):
-    """Resolves the pending call, and calls at random until the time is over or the server is killed. The player as it
-    is then."""
-    try:
-        connection = CutConnection(port)
-        player.resolve(connection)
-        while player.open and time.monotonic() < until:
-            player.call(connection, random.choice(player.open), random.random() < 0.55)
-        connection.close()
-    except (Cut, OSError):
-        pass
-    return player

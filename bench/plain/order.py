@@ -5,7 +5,7 @@ import struct
 from functools import cache
 
 from image import KINDS, Block, Broken, name_of, require
-from journal import CHANGE, FRONT, HEAD, SUM
+from journal import CHANGE, FRONT, HEAD, SUM, sum_of
 from layout import Layout, block_size
 
 DIRECTORY = 34
@@ -13,16 +13,23 @@ DIRECTORY = 34
 
 def frames(data):
     """The words on which a journal begins, and the changes of its frames, as far as each says the sum of the one
-    before. The sums are not worked out: what is wrong with them, `reading` of journal finds."""
+    before. Of the last one alone the sum is worked out, since it may be torn, with room behind it: what is wrong with
+    the others, `reading` of journal finds."""
     (count,) = struct.unpack_from("<Q", data, 8)
     at = HEAD + 8 * count
+    key = data[at - 2 * SUM:at - SUM]
     words, changes = list(struct.unpack_from(f"<{count}Q", data, 16)), []
+    last = None
     while len(data) >= at + FRONT and data[at:at + SUM] == data[at - SUM:at]:
-        end = at + FRONT + CHANGE * struct.unpack_from("<I", data, at + 16)[0]
-        if len(data) < end + SUM:
+        (made,) = struct.unpack_from("<I", data, at + 16)
+        end = at + FRONT + CHANGE * made
+        if made == 0 or len(data) < end + SUM:
             break
+        last = at, len(changes)
         changes += struct.iter_unpack("<IQ", data[at + FRONT:end])
         at = end + SUM
+    if last and data[at - SUM:at] != sum_of(key, data[last[0]:at - SUM]):
+        del changes[last[1]:]
     return words, changes
 
 
