@@ -73,8 +73,8 @@ class Life(Killed):
         return {}
 
     def begin(self, how):
-        """A server that begins on the journal, for a turn of this kind."""
-        renews = how == "renewal" or random.random() < 0.5
+        """A server that begins on the journal, for a turn of this kind. The last one renews, so that all can be taken."""
+        renews = how in ("renewal", "last") or random.random() < 0.5
         most = HEAD + GROWTH[renews] if how in ("compaction", "full") else resource.RLIM_INFINITY
         self.policy = random.choice(POLICIES)
         options = ["--journal", self.journal, "--sync", self.policy, *(["--renew"] if renews else [])]
