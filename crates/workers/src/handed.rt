@@ -172,6 +172,7 @@ impl<J: Naming> Locked<J> {
         let (hander, last) = handed.into_parts();
         let mark = marked.into_mark();
         let Some(book) = &self.book else {
+            // Who has changes to hand on is of a session whose changes are noted.
             unreachable!();
         };
         let (hander, mark, has) = book.ledger.has_handed(hander, mark);
@@ -259,9 +260,9 @@ impl<J: Naming> Shared<J> {
         lock(rt, &self.locked).mark_noted()
     }
 
-    /// The same, where a seat is at hand. They make the kept words of a
-    /// moment whose histories have the seat's list: so each answer that the list has is told by the words that these
-    /// changes make, and a reply may go out once they last. The seat comes back as it was.
+    /// The same, where a seat is at hand. They make the kept words of a moment whose histories have the seat's list: so
+    /// each answer that the list has is told by the words that these changes make, and a reply may go out once they last.
+    /// The seat comes back as it was.
     pub fn mark<R: Wait>(&self, rt: &R, seat: Seat<J>) -> (Seat<J>, Option<Marked<J>>)
         ensures client { result.0.client ≡ seat.client }
         ensures list { result.0.list.items ≡ seat.list.items }

@@ -101,7 +101,7 @@ fn is_want_of_memory(refusal: Refusal) -> bool
 
 impl<J: Naming> Locked<J> {
     /// What is to lie under the lock, where no seat has been used yet. It is a call of its own: where LLVM puts it into
-    /// its caller, the session goes to two places of one answer, and LLVM does not come to an end of splitting it.
+    /// its caller, the session goes to two places of one answer, and LLVM takes minutes to split it.
     #[inline(never)]
     pub(crate) fn new(
         session: Session,
