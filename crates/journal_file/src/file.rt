@@ -6,8 +6,8 @@ use crate::appender::Appender;
 use devices::{CountedWriter, Failed, write_all};
 use std::fs::File;
 
-/// How far the file is made longer than what was written, each time that this has come to its end. A sync within it has
-/// no new length to keep, which would cost another write of the disk.
+/// How far the file is made longer than what was written at most, each time that this has come to its end. A sync within
+/// it has no new length to keep, which would cost another write of the disk.
 const AHEAD: u64 = 1 << 20;
 
 /// A file that was opened to be written from its end on. It is as long as what was written, and then has zeros, up to
@@ -42,7 +42,8 @@ impl FileAppender {
     {
         self.written = self.written.saturating_add(bytes.len() as u64);
         if self.written > self.room {
-            self.room = self.written.saturating_add(AHEAD);
+            // A short file is made twice as long, so that a low limit of file sizes is not met at once.
+            self.room = self.written.saturating_add(self.written.min(AHEAD));
             let _ = self.file.set_len(self.room);
         }
     }
