@@ -5,5 +5,6 @@ mod Handling
 mod Long
 mod Buffers
 mod Replying
+mod Telling
 mod Between
 mod Unknown
