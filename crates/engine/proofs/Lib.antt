@@ -8,3 +8,4 @@ mod Replying
 mod Telling
 mod Between
 mod Unknown
+pub mod Facts

@@ -39,6 +39,13 @@ begins_longer : (w v : Option (List ℕ)) (text more : List ℕ) → AppendsBegi
 begins_longer w v text more p =
     (p.0, p.1 ++ more, ap (λ (xs : List ℕ). xs ++ more) p.2 ∙ append_assoc p.0 p.1 more, p.3)
 
+-- a beginning of the text of all of them was written
+pub some_written : (old s0 s : Served) (w v : Option (List ℕ)) (rs : List Reply) → SomeAreTold old s0 s w v rs
+    → AppendsBeginning w v (output_of rs)
+some_written old s0 s w v rs p =
+    subst (AppendsBeginning w v) (sym (ap output_of p.parts ∙ output_of-append p.told p.untold))
+    (begins_longer w v (output_of p.told) (output_of p.untold) p.written)
+
 pub none_held : (old s0 : Served) (w : Option (List ℕ)) → AreHeld old s0 s0 w w [] []
 none_held old s0 w = record {
   moved = Moves-none w [];

@@ -4,6 +4,8 @@ ghost use Rattle.std.specs.Prelude.{◌≡◌};
 ghost use Rattle.engine.specs.Failing.{failure_of};
 
 use crate::output::Unsent;
+use std::fmt;
+use words::Refusal;
 
 /// Why an input is not served to its end.
 #[derive(Clone, Copy, Debug, PartialEq, Eq)]
@@ -26,3 +28,16 @@ impl From<Unsent> for Failure {
         }
     }
 }
+
+/// Its number and its name, as a refusal has them.
+impl fmt::Display for Failure {
+    fn fmt<W: fmt::Write>(&self, f: &mut fmt::Formatter<W>) -> fmt::Result {
+        match self {
+            Failure::ReadFailed => write!(f, "{}", Refusal::ReadFailed),
+            Failure::WriteFailed => write!(f, "{}", Refusal::WriteFailed),
+            Failure::NotKept => write!(f, "31 NotKept"),
+        }
+    }
+}
+
+impl std::error::Error for Failure {}
