@@ -1,8 +1,6 @@
-//! Writers that write of what was done only once it lasts.
+//! What makes that lasts which is done, before it is told of.
 #![tactic(auto)]
 
 mod settles;
-mod writer;
 
 pub use settles::{InMemory, Settles};
-pub use writer::SettlingWriter;
