@@ -1,13 +1,16 @@
 //! Worker threads, each of which serves one connection at a time.
 
+ghost use Rattle.std.specs.Prelude.{◌≡◌, refl};
+ghost use Rattle.chronicle.specs.Chronicled.{entries};
+
 use crate::json_lines::JsonLines;
 use crate::stopping::Stopping;
 use crossbeam_channel::Receiver;
 use desk::{BrokerDesk, Seating};
-use devices::{CountedReader, CountedWriter};
+use devices::{CountedReader, CountedWriter, Failed};
 use engine::{Desk, serve};
 use log::{Log, warn};
-use settling::{Settles, SettlingWriter};
+use settling::Settles;
 use std::alloc::Global;
 use std::net::TcpStream;
 use std::sync::Wait;
@@ -36,13 +39,17 @@ pub(crate) struct Serving<'a, J: Naming, S: Settles> {
 
 /// The desk of a connection, which says where it has accepted a stop.
 #[derive(Drop)]
-struct StoppingDesk<'a, J: Naming> {
-    desk: BrokerDesk<'a, J>,
+struct StoppingDesk<'a, J: Naming, S: Settles> {
+    desk: BrokerDesk<'a, J, S>,
     stopping: &'a Stopping,
 }
 
-impl<J: Naming> Desk for StoppingDesk<'_, J> {
-    ghost served = { λ desk. desk.desk.served };
+impl<J: Naming, S: Settles> Desk for StoppingDesk<'_, J, S> {
+    ghost served = { λ desk. entries desk.desk.served };
+
+    ghost settled = { λ desk. desk.desk.served.settled };
+
+    ghost failures = { λ desk. desk.desk.unsettled };
 
     fn answer<R: Wait>(&mut self, rt: &R, request: Request) -> Answer {
         let answer = self.desk.answer(rt, request);
@@ -52,6 +59,12 @@ impl<J: Naming> Desk for StoppingDesk<'_, J> {
         }
         answer
     }
+
+    fn settle<R: Wait>(&mut self, rt: &R) -> Result<(), Failed> {
+        self.desk.settle(rt)
+    }
+
+    ghost begins = { λ desk. (desk.desk.served.unsettled, refl) };
 }
 
 /// Serves a connection to its end, and closes it.
@@ -65,20 +78,19 @@ fn serve_connection<J: Naming, S: Settles, R: Wait + Log>(
     if connection.set_nodelay(true).is_err() {
         warn!(rt; "a connection delays its replies");
     }
-    let Ok(desk) = BrokerDesk::new(alloc, serving.shared, serving.seats) else {
+    let Ok(desk) = BrokerDesk::new(alloc, serving.shared, serving.seats, serving.settles) else {
         warn!(rt; "a connection is closed unserved: {}", Refusal::NoMemory);
         return;
     };
     let mut reader = CountedReader::new(&connection);
-    let mut counted = CountedWriter::new(&connection);
-    let mut writer = SettlingWriter::new(rt, serving.settles, &mut counted);
+    let mut writer = CountedWriter::new(&connection);
     let mut desk = StoppingDesk {
         desk,
         stopping: serving.stopping,
     };
     let served = serve::<R, JsonLines, _, _, _>(rt, alloc, &mut reader, &mut writer, &mut desk);
-    if let Err(refusal) = served {
-        warn!(rt; "a connection ended: {refusal}");
+    if let Err(failure) = served {
+        warn!(rt; "a connection ended: {failure}");
     }
 }
 

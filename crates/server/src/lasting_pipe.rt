@@ -14,7 +14,6 @@ use engine::serve;
 use journal_file::{Appender, Storage};
 use lasting::{Policy, Settler, SharedJournal};
 use named::Broker;
-use settling::SettlingWriter;
 use std::alloc::Global;
 use std::marker::Brand;
 use std::sync::Wait;
@@ -24,7 +23,7 @@ use std::time::Clock;
 use words::Refusal;
 use workers::Naming;
 
-/// Serves the requests of the reader to the writer, which are settled before each write.
+/// Serves the requests of the reader to the writer, by a desk that settles them in the journal.
 fn serve_settling<J: Naming, F: Appender + Drop, S: Storage<F>, T: Wait, R: Reader, W: Writer>(
     rt: &T,
     alloc: Global,
@@ -32,15 +31,15 @@ fn serve_settling<J: Naming, F: Appender + Drop, S: Storage<F>, T: Wait, R: Read
     journal: &SharedJournal<'_, J, F, S>,
     reader: &mut R,
     writer: &mut W,
-) -> Result<(), Refusal>
+) -> Result<(), Unserved>
     requires reader { R.failures reader.old < MAX_FAILURES }
     requires writer { W.failures writer.old < MAX_FAILURES }
 {
-    let Ok(mut desk) = BrokerDesk::new(alloc, journal.shared(), seats) else {
-        return Err(Refusal::NoMemory);
+    let Ok(mut desk) = BrokerDesk::new(alloc, journal.shared(), seats, journal) else {
+        return Err(Unserved::Refused(Refusal::NoMemory));
     };
-    let mut settling = SettlingWriter::new(rt, journal, writer);
-    serve::<T, JsonLines, _, _, _>(rt, alloc, reader, &mut settling, &mut desk)
+    serve::<T, JsonLines, _, _, _>(rt, alloc, reader, writer, &mut desk)?;
+    Ok(())
 }
 
 /// The same, and beside it another thread keeps the journal, where it is to be kept each second.
@@ -58,7 +57,7 @@ fn serve_beside<
     journal: &SharedJournal<'_, J, F, S>,
     reader: &mut R,
     writer: &mut W,
-) -> Result<(), Refusal>
+) -> Result<(), Unserved>
     requires reader { R.failures reader.old < MAX_FAILURES }
     requires writer { W.failures writer.old < MAX_FAILURES }
 {
