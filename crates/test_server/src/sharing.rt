@@ -9,6 +9,7 @@ use desk::{BrokerDesk, Seating};
 use directory::Name;
 use engine::Desk;
 use session::Session;
+use settling::InMemory;
 use std::alloc::Global;
 use std::marker::Brand;
 use std::process::Abort;
@@ -68,7 +69,8 @@ fn put_all<J: Naming, R: Wait + Clock>(
     seats: &Seating<J>,
     tally: &Tally,
 ) {
-    let Ok(mut desk) = BrokerDesk::new(alloc, shared, seats) else {
+    let settles = InMemory;
+    let Ok(mut desk) = BrokerDesk::new(alloc, shared, seats, &settles) else {
         return count(&tally.other);
     };
     wait_for_all(rt, &tally.there);
@@ -101,7 +103,8 @@ fn shared_by_all<J: Naming + Send + Sync, R: Threads + Wait + Clock + Abort + Sy
         Err(not) => return Err(Fail::new(not.refusal)),
     };
     let seats = Seating::new(alloc, seats, operator)?;
-    let mut desk = BrokerDesk::new(alloc, &shared, &seats)?;
+    let settles = InMemory;
+    let mut desk = BrokerDesk::new(alloc, &shared, &seats, &settles)?;
     let create = Request::Create {
         queue: Name::make(b"a").ok(),
         kind: Kind::Durable,
@@ -117,7 +120,7 @@ fn shared_by_all<J: Naming + Send + Sync, R: Threads + Wait + Clock + Abort + Sy
 }
 
 /// How many values client 1 takes until the queue is empty.
-fn taken<J: Naming, R: Wait>(rt: &R, desk: &mut BrokerDesk<'_, J>) -> Result<u64, Fail> {
+fn taken<J: Naming, R: Wait>(rt: &R, desk: &mut BrokerDesk<'_, J, InMemory>) -> Result<u64, Fail> {
     for count in 0..=u64::from(RECORDS) {
         let take = Request::Take {
             client: 1,

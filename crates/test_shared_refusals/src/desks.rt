@@ -8,9 +8,10 @@ use anyhow::Result;
 use desk::{BrokerDesk, Seating};
 use devices::{CountedWriter, FaultyReader};
 use directory::Name;
-use engine::serve;
+use engine::{Failure, serve};
 use server::JsonLines;
 use session::Session;
+use settling::InMemory;
 use std::fmt::Write;
 use std::marker::Brand;
 use std::sync::Wait;
@@ -119,9 +120,9 @@ fn seen_beside<J: Naming, R: Wait + AllocGlobal>(rt: &R, shared: &Shared<J>) -> 
 /// Serves a line, and writes its reply.
 fn served<J: Naming, R: Wait + AllocGlobal>(
     rt: &R,
-    desk: &mut BrokerDesk<'_, J>,
+    desk: &mut BrokerDesk<'_, J, InMemory>,
     line: &str,
-) -> Result<Written, Refusal> {
+) -> Result<Written, Failure> {
     let mut reader = FaultyReader::new(line.as_bytes(), usize::MAX);
     let mut written = Written::new();
     let mut writer = CountedWriter::new(&mut written);
@@ -133,7 +134,7 @@ fn served<J: Naming, R: Wait + AllocGlobal>(
 fn served_at_last<J: Naming, R: Wait + Print + AllocGlobal>(
     rt: &R,
     shared: &Shared<J>,
-    desk: &mut BrokerDesk<'_, J>,
+    desk: &mut BrokerDesk<'_, J, InMemory>,
     line: &str,
 ) -> Result<Written> {
     for _ in 0..MOST_TRIES {
@@ -153,7 +154,7 @@ fn served_at_last<J: Naming, R: Wait + Print + AllocGlobal>(
 fn finished<J: Naming, R: Wait + Print + AllocGlobal>(
     rt: &R,
     shared: &Shared<J>,
-    desk: &mut BrokerDesk<'_, J>,
+    desk: &mut BrokerDesk<'_, J, InMemory>,
     asks: Asks,
     line: &str,
 ) -> Result<()> {
@@ -177,7 +178,7 @@ fn finished<J: Naming, R: Wait + Print + AllocGlobal>(
 fn play_line<J: Naming, R: Wait + Print + AllocGlobal>(
     rt: &R,
     shared: &Shared<J>,
-    desk: &mut BrokerDesk<'_, J>,
+    desk: &mut BrokerDesk<'_, J, InMemory>,
     asks: Asks,
     line: &str,
 ) -> Result<()> {
@@ -197,9 +198,10 @@ fn desk_at_last<'a, J: Naming, R: Wait + Print + AllocGlobal>(
     rt: &R,
     shared: &'a Shared<J>,
     seats: &'a Seating<J>,
-) -> Result<BrokerDesk<'a, J>> {
+    settles: &'a InMemory,
+) -> Result<BrokerDesk<'a, J, InMemory>> {
     for _ in 0..MOST_TRIES {
-        if let Ok(desk) = BrokerDesk::new(rt.alloc(), shared, seats) {
+        if let Ok(desk) = BrokerDesk::new(rt.alloc(), shared, seats, settles) {
             return Ok(desk);
         }
         say_again(rt, "BrokerDesk::new", true)?;
@@ -213,7 +215,8 @@ fn play_lines<J: Naming, R: Wait + Print + AllocGlobal>(
     shared: &Shared<J>,
     seats: &Seating<J>,
 ) -> Result<()> {
-    let mut desk = desk_at_last(rt, shared, seats)?;
+    let settles = InMemory;
+    let mut desk = desk_at_last(rt, shared, seats, &settles)?;
     for (asks, line) in &LINES {
         play_line(rt, shared, &mut desk, *asks, line)?;
     }
