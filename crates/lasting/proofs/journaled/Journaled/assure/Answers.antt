@@ -4,8 +4,8 @@ use Rattle.lasting.specs.Lasting.{IsKept, IsKeptBy, Kept}
 use Rattle.lasting.proofs.Moments.{kept_assured}
 use Rattle.lasting.proofs.journaled.Journaled.assure.Goals as goal
 
-pub invariant_of-result : goal.invariant_of-result
-invariant_of-result g c =
+pub invariant_of-journaled : goal.invariant_of-journaled
+invariant_of-journaled g c =
     let old : Kept = record {
       policy = c.self.inside.policy;
       handed = c.self.inside.handed.changes;
