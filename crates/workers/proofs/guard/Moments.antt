@@ -1,5 +1,5 @@
 -- What lies under the lock is at a moment of its session.
-use Rattle.std.proofs.Common.{◌≡◌, List, Some, ℕ, slice_get, refl, sym, subst}
+use Rattle.std.proofs.Common.{◌≡◌, List, Some, ℕ, slice_get, refl, subst}
 use Rattle.words.specs.declared.call.Client.{Client}
 use Rattle.persist.specs.declared.access.Change.{Change}
 use Rattle.persist.specs.Noted.{applied}
