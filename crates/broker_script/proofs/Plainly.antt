@@ -6,6 +6,7 @@ use Rattle.grammar.specs.declared.commands.Command.TheVariants.{Again}
 use Rattle.arena.specs.Broker.{broker_size}
 use Rattle.named.specs.Brokers.{Brokered}
 use Rattle.playing.specs.declared.lines.Line.TheVariants.{Size}
+use Rattle.broker_script.specs.Grammar.{counts_by}
 use Rattle.broker_script.specs.Plain.{is_answer, without_again, without_refusals, ArePlainLinesOf, FollowsPlainly, all_followed, next_line}
 use Rattle.broker_script.specs.Play.{Played}
 use Rattle.broker_script.specs.PutOff.{IsAsBefore, IsPutOff}
@@ -94,5 +95,5 @@ pub none_refused : (broker : Option BrokerLine) (statements : List Statement) (l
 none_refused None statements lines acts given = ap without_refusals given ∙ sym given
 none_refused (Some broker) statements lines acts given =
     ap without_refusals given.gives
-    ∙ ap (λ (l : List Printed). whole_line (Size (broker_size (record { clients = broker.clients; records = broker.records }))) ∷ l)
+    ∙ ap (λ (l : List Printed). whole_line (Size (broker_size (counts_by broker))) ∷ l)
     (all_left given.given (all_said given.followed acts)) ∙ sym given.gives

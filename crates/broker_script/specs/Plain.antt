@@ -3,6 +3,7 @@ use Rattle.std.specs.Prelude.{◌≡◌, Bool, true, false, List, [], ◌∷◌,
 use Rattle.words.specs.declared.refusal.Refusal.TheVariants.{NoMemory}
 use Rattle.grammar.specs.declared.commands.Command.TheVariants.{Again}
 use Rattle.playing.specs.declared.lines.Line.TheVariants.{Refused}
+use Rattle.broker_script.specs.Grammar.{counts_by}
 use Rattle.broker_script.specs.Play.{Played}
 use Rattle.broker_script.specs.PutOff.{IsPutOff}
 use Rattle.broker_script.specs.Transcript.{FollowsLine, IsPlayedBy}
@@ -40,4 +41,4 @@ pub data FollowsPlainly : Played → List Statement → List Printed → Type 0 
 abbrev pub ArePlainLinesOf : Option BrokerLine → List Statement → List Printed → Type 0
 ArePlainLinesOf None statements lines = lines ≡ []
 ArePlainLinesOf (Some broker) statements lines =
-    IsPlayedBy FollowsPlainly (record { clients = broker.clients; records = broker.records }) statements lines
+    IsPlayedBy FollowsPlainly (counts_by broker) statements lines

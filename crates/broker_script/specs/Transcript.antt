@@ -27,6 +27,7 @@ use Rattle.playing.specs.declared.lines.Line.{Line}
 use Rattle.playing.specs.declared.lines.Line.TheVariants.{Size, Refused, Crash as crash_line}
 use Rattle.broker_script.specs.Asking.{FollowsAsk}
 use Rattle.broker_script.specs.Creating.{BeginsCreation, Creates}
+use Rattle.broker_script.specs.Grammar.{counts_by}
 use Rattle.broker_script.specs.Imaging.{Boots, Images, SetsWord}
 use Rattle.broker_script.specs.OnQueue.{found_line, FollowsOn, IsToldLine}
 use Rattle.broker_script.specs.Play.{Played, new_played, session_of}
@@ -162,7 +163,7 @@ IsPlayedOn counts statements lines = IsPlayedBy FollowsAll counts statements lin
 abbrev pub AreLinesOf : Option BrokerLine → List Statement → List Printed → Type 0
 AreLinesOf None statements lines = lines ≡ []
 AreLinesOf (Some broker) statements lines =
-    IsPlayedOn (record { clients = broker.clients; records = broker.records }) statements lines
+    IsPlayedOn (counts_by broker) statements lines
 
 -- its transcript
 pub record IsTranscript (broker : Option BrokerLine) (statements : List Statement) (text : List ℕ) : Type 0 where
