@@ -128,7 +128,7 @@ def ends_of(data):
 def refused_memory(file):
     """Each allocation is refused in turn. What was refused memory is asked once more; a server that ends left a journal
     from which the next one goes on."""
-    said_so = {"pqd: 6 NoMemory\n": 0, "pqd: 27 WriteFailed\n": 0}
+    said_so = {"pqd: 6 NoMemory\n": 0, "pqd: 31 NotKept\n": 0}
     again = 0
     clear(file)
     broker = Broker(file, REFUSED="0", LD_PRELOAD=REFUSING)

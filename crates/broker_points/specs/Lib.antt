@@ -1,4 +1,4 @@
 pub mod Points
 pub mod Reports
-pub mod Sweep
 pub mod Run
+pub mod Sweep

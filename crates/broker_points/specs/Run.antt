@@ -8,6 +8,7 @@ use Rattle.grammar.specs.Lines.{lines_of}
 use Rattle.named.specs.Brokers.{IsNew}
 use Rattle.session.specs.Sessions.{Sessioned}
 use Rattle.explore.specs.declared.evictions.Evictions.{Evictions}
+use Rattle.broker_script.specs.Grammar.{counts_by}
 use Rattle.broker_script.specs.Play.{new_played}
 use Rattle.broker_script.specs.Script.{Says}
 use Rattle.broker_script.specs.Scripted.{Scripted}
@@ -38,8 +39,7 @@ pub record IsReportOf (c : Counts) (statements : List Statement) (evictions : Ev
 -- and that on a script: it is empty where there is no broker
 abbrev pub IsReport : Option BrokerLine → List Statement → Evictions → List ℕ → Type 0
 IsReport None statements evictions text = text ≡ []
-IsReport (Some broker) statements evictions text =
-    IsReportOf (record { clients = broker.clients; records = broker.records }) statements evictions text
+IsReport (Some broker) statements evictions text = IsReportOf (counts_by broker) statements evictions text
 
 -- a text says a script, and this is a report on it
 pub record Reports (evictions : Evictions) (text printed : List ℕ) : Type 0 where

@@ -3,7 +3,7 @@
 ghost use Rattle.std.specs.Prelude.{◌≡◌, ◌++◌, ◌∷◌, [], None, true, false, IsTrue, OnOk, IfOk, IfErr, length, map, replicate};
 ghost use Rattle.named.specs.GoingOn.{BrokerGoesOn};
 ghost use Rattle.session.specs.Keeping.{SessionGoesOn};
-ghost use Rattle.broker_script.specs.Grammar.{IsServedBroker};
+ghost use Rattle.broker_script.specs.Grammar.{counts_by, IsServedBroker};
 ghost use Rattle.broker_script.specs.Play.{session_of};
 ghost use Rattle.broker_script.specs.Standing.{keeps_queues, QueuesStay};
 ghost use Rattle.broker_script.specs.Transcript.{FollowsLine};
@@ -168,9 +168,8 @@ pub fn crash(
     evictions: Evictions,
 ) -> Result<Point, Refusal>
     requires { IsServedBroker broker.now }
-    ensures point { IfOk result (λ point. IsPointAfter
-        (record { clients = broker.now.clients; records = broker.now.records }) acts.now evictions (length acts.now)
-        point.text.items) }
+    ensures point { IfOk result (λ point. IsPointAfter (counts_by broker.now) acts.now evictions
+        (length acts.now) point.text.items) }
     ensures ok { IfOk result (λ point. IsTrue point.ok) }
     ensures errors { IfErr result (λ e. e ≡ Refusal.NoMemory) }
 {

@@ -2,9 +2,9 @@
 
 ghost use Rattle.std.specs.Prelude.{◌≡◌, ◌++◌, OnOk, IfOk, IfErr, count_by, length, map, not, string_bytes};
 ghost use Rattle.std.specs.List.{concat};
-ghost use Rattle.broker_script.specs.Grammar.{IsServedBroker};
+ghost use Rattle.broker_script.specs.Grammar.{counts_by, IsServedBroker};
 ghost use Rattle.broker_points.specs.Run.{count_text, IsReport, IsReportOf};
-ghost use Rattle.broker_points.specs.Sweep.{text_of, AreOk};
+ghost use Rattle.broker_points.specs.Sweep.{report_on, text_of, AreOk};
 
 use crate::point::Point;
 use crate::sweep::{Schedule, all_points};
@@ -54,8 +54,7 @@ fn count_line(alloc: Global, points: usize, bad: usize) -> Result<Vec<u8>, Refus
 
 /// The text of a report on points.
 fn report_text(alloc: Global, points: &[Point]) -> Result<Vec<u8>, Refusal>
-    ensures text { IfOk result (λ text. text.items ≡ concat (map text_of points.now)
-        ++ count_text (length points.now) (count_by (λ point. not point.ok) points.now)) }
+    ensures text { IfOk result (λ text. text.items ≡ report_on points.now) }
     ensures errors { IfErr result (λ e. e ≡ Refusal.NoMemory) }
 {
     let mut text = lines_text(alloc, points)?;
@@ -74,8 +73,7 @@ fn report_of<R: Threads + Sync, W: Watch>(
     watch: &mut W,
 ) -> Result<Vec<u8>, Refusal>
     requires { IsServedBroker broker }
-    ensures report { IfOk result (λ text. IsReportOf
-        (record { clients = broker.clients; records = broker.records }) statements.now evictions text.items) }
+    ensures report { IfOk result (λ text. IsReportOf (counts_by broker) statements.now evictions text.items) }
     ensures errors { IfErr result (λ e. e ≡ Refusal.NoMemory) }
 {
     let player = Player::new(alloc, broker.clients, broker.records)?;

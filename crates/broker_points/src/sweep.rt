@@ -1,10 +1,9 @@
 //! A crash of a whole broker at every point of a script.
 
 ghost use Rattle.std.specs.Prelude.{◌≡◌, ◌+◌, ◌-◌, ◌<◌, ◌≤◌, ◌++◌, IsTrue, OnOk, IfOk, IfErr, length, map};
-ghost use Rattle.std.specs.List.{AllZip, range_with_len};
+ghost use Rattle.std.specs.List.{range_with_len};
 ghost use Rattle.broker_script.specs.Grammar.{IsServedBroker};
-ghost use Rattle.broker_points.specs.Points.{IsPointAt};
-ghost use Rattle.broker_points.specs.Sweep.{text_of, AreOk};
+ghost use Rattle.broker_points.specs.Sweep.{AreOk, ArePointsOf, IsPointOf};
 
 use crate::point::{Point, crash};
 use broker_script::{BrokerLine, Statement};
@@ -51,10 +50,7 @@ fn some_points<R: Threads + Sync>(
     requires served { IsServedBroker schedule.now.broker }
     requires ordered { from ≤ to }
     requires within { to ≤ length schedule.now.acts.items + 1 }
-    ensures points { IfOk result (λ points. AllZip
-        (IsPointAt (record { clients = schedule.now.broker.clients; records = schedule.now.broker.records })
-        schedule.now.acts.items schedule.now.evictions)
-        (range_with_len from (to - from)) (map text_of points.items)) }
+    ensures points { IfOk result (λ points. ArePointsOf schedule.now (range_with_len from (to - from)) points.items) }
     ensures ok { IfOk result (λ points. AreOk points.items) }
     ensures errors { IfErr result (λ e. e ≡ Refusal.NoMemory) }
 {
@@ -66,10 +62,7 @@ fn some_points<R: Threads + Sync>(
             |point: usize| -> Result<Point, Refusal>
                 requires served { IsServedBroker schedule.now.broker }
                 requires within { point ≤ length schedule.now.acts.items }
-                ensures point { IfOk result (λ found. IsPointAt (record {
-                  clients = schedule.entry.now.broker.clients;
-                  records = schedule.entry.now.broker.records;
-                }) schedule.entry.now.acts.items schedule.entry.now.evictions point found.text.items) }
+                ensures point { IfOk result (λ found. IsPointOf schedule.entry.now point found.text.items) }
                 ensures ok { IfOk result (λ found. IsTrue found.ok) }
                 ensures errors { IfErr result (λ e. e ≡ Refusal.NoMemory) }
             {
@@ -104,10 +97,8 @@ pub(crate) fn all_points<R: Threads + Sync, W: Watch>(
     watch: &mut W,
 ) -> Result<Vec<Point>, Refusal>
     requires { IsServedBroker schedule.now.broker }
-    ensures points { IfOk result (λ points. AllZip
-        (IsPointAt (record { clients = schedule.now.broker.clients; records = schedule.now.broker.records })
-        schedule.now.acts.items schedule.now.evictions)
-        (range_with_len 0 (length schedule.now.acts.items + 1)) (map text_of points.items)) }
+    ensures points { IfOk result
+        (λ points. ArePointsOf schedule.now (range_with_len 0 (length schedule.now.acts.items + 1)) points.items) }
     ensures ok { IfOk result (λ points. AreOk points.items) }
     ensures errors { IfErr result (λ e. e ≡ Refusal.NoMemory) }
 {

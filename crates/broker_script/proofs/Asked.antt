@@ -1,24 +1,24 @@
 -- What a session answers, as a line of a player.
-use Rattle.std.proofs.Common.{◌≡◌, ◌≢◌, ◌⊎◌, inl, inr, refl, sym, ap, ◌∙◌, subst, ℕ, Bool, true, false, ◌==◌, if◌then◌else◌}
-use Rattle.std.specs.Prelude.{Option, Some, None, Result, Ok, Err, OnErr, is_ok, slice_get}
+use Rattle.std.proofs.Common.{◌≡◌, ◌≢◌, inl, inr, refl, sym, ap, ◌∙◌, subst, ℕ, Bool, true, false, ◌==◌, if◌then◌else◌}
+use Rattle.std.specs.Prelude.{Option, Some, None, Result, Ok, Err, is_ok, slice_get}
 use Rattle.words.specs.declared.call.Call.{Call}
 use Rattle.words.specs.declared.call.Client.{Client}
 use Rattle.words.specs.declared.call.Reply.{Reply}
 use Rattle.words.specs.declared.refusal.Refusal.{Refusal}
 use Rattle.words.specs.declared.refusal.Refusal.TheVariants.{NoMemory, NoRoom}
 use Rattle.interleave.specs.State.{State, after_bump_load, after_call_began, after_start, number_to_start, start_result, start_result_with, start_with, used_by}
-use Rattle.named.specs.Brokers.{Brokered, admission, answer_at, answer_if, quiet, world_after, world_at}
+use Rattle.named.specs.Brokers.{Brokered, IsWell, admission, answer_if, quiet, world_at}
 use Rattle.named.specs.GoingOn.{BrokerGoesOn}
 use Rattle.named.specs.Slots.{acted, answered}
 use Rattle.session.specs.Keeping.{SessionGoesOn}
-use Rattle.session.specs.Requests.{IsBegunBy, IsRun, IsServedBy, IsUnserved, plain_answer, request_answer}
+use Rattle.session.specs.Requests.{IsBegunBy, IsRun, IsServedBy}
 use Rattle.session.specs.Sessions.{IsRight, Sessioned, kept_in}
 use Rattle.playing.specs.Play.{steps_with}
 use Rattle.broker_script.specs.Asking.{IsAskedIn, IsAnswered, as_answered, steps_begun}
 use Rattle.broker_script.specs.Play.{Played, session_of, steps_at}
 use Rattle.broker_script.specs.PutOff.{IsAsBefore, IsPutOff}
 use Rattle.broker_script.specs.declared.statements.Ask.{Ask}
-use Rattle.broker_script.specs.declared.statements.Ask.TheVariants.{Request, Plain, Begin}
+use Rattle.broker_script.specs.declared.statements.Ask.TheVariants.{Begin}
 use Rattle.broker_script.proofs.PutOffs.{as_before, beside_one, put_off, start_left}
 
 -- a start that was refused changes nothing but the count of accesses
@@ -47,31 +47,32 @@ unmade_at client number call refusal (Err other) o refused = refl
 unmade_at client number call refusal (Ok u) o refused = unmade_in client number call refusal o refused
 
 -- a call that was to run to its end, and was refused memory
-run_refused : (old new : Brokered) (slot : ℕ) (client : Client) (number : ℕ) (call : Call)
+run_refused : (old new : Brokered) (slot : ℕ) (client : Client) (number : ℕ) (call : Call) → IsWell old → IsWell new
     → IsRun old new slot client number call (Err NoMemory) → IsAsBefore old new
-run_refused old new slot client number call (inl none, room, beside) =
-    beside_one slot old new beside (ap quiet (none.2 slot))
-run_refused old new slot client number call (inr refused, room, beside) =
-    beside_one slot old new beside
+run_refused old new slot client number call well well_now (inl none, room, beside) =
+    beside_one slot old new well well_now beside (ap quiet (none.2 slot))
+run_refused old new slot client number call well well_now (inr refused, room, beside) =
+    beside_one slot old new well well_now beside
     (ap quiet refused.1 ∙ unmade_at client number call NoMemory (admission old client) (world_at old slot) refused.0)
 
 pub served_refused : (old new : Sessioned) (slot : ℕ) (client : Client) (number : ℕ) (call : Call)
-    (comes_to : Result (Option Reply) Refusal) → IsServedBy old new slot client number call (Err NoMemory) comes_to
-    → IsAsBefore old.broker new.broker
-served_refused old new slot client number call (Err refusal) by =
+    (comes_to : Result (Option Reply) Refusal) → IsWell old.broker → IsWell new.broker
+    → IsServedBy old new slot client number call (Err NoMemory) comes_to → IsAsBefore old.broker new.broker
+served_refused old new slot client number call (Err refusal) well well_now by =
     subst (λ (s : Sessioned). IsAsBefore old.broker s.broker) (sym by.1) (as_before old.broker)
-served_refused old new slot client number call (Ok (Some reply)) by = absurd (let e = by.0 in cc)
-served_refused old new slot client number call (Ok None) by = run_refused old.broker new.broker slot client number call by
+served_refused old new slot client number call (Ok (Some reply)) well well_now by = absurd (let e = by.0 in cc)
+served_refused old new slot client number call (Ok None) well well_now by =
+    run_refused old.broker new.broker slot client number call well well_now by
 
 -- and one that was to begin
 pub begun_refused : (old new : Sessioned) (slot : ℕ) (client : Client) (number : ℕ) (call : Call)
-    (comes_to : Result (Option Reply) Refusal) → IsBegunBy old new slot client number call (Err NoMemory) comes_to
-    → IsAsBefore old.broker new.broker
-begun_refused old new slot client number call (Err refusal) by =
+    (comes_to : Result (Option Reply) Refusal) → IsWell old.broker → IsWell new.broker
+    → IsBegunBy old new slot client number call (Err NoMemory) comes_to → IsAsBefore old.broker new.broker
+begun_refused old new slot client number call (Err refusal) well well_now by =
     subst (λ (s : Sessioned). IsAsBefore old.broker s.broker) (sym by.1) (as_before old.broker)
-begun_refused old new slot client number call (Ok (Some reply)) by = absurd (let e = by.0 in cc)
-begun_refused old new slot client number call (Ok None) by =
-    start_left old.broker new.broker slot client number call by.0.act.world by.0.beside
+begun_refused old new slot client number call (Ok (Some reply)) well well_now by = absurd (let e = by.0 in cc)
+begun_refused old new slot client number call (Ok None) well well_now by =
+    start_left old.broker new.broker slot client number call well well_now by.0.act.world by.0.beside
 
 -- a refusal is one of the call that was to run to its end
 pub was_refused : (r : Result Reply Refusal) (refusal : Refusal) → as_answered r ≡ Err refusal → r ≡ Err refusal

@@ -8,9 +8,12 @@ mod Acted
 mod Staying
 mod Making
 mod Going
+mod SameWords
 mod PutOffs
 mod Asked
 mod Again
 mod Printing
 mod Imaged
+mod Said
+mod Plainly
 pub mod Facts

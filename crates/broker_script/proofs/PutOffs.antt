@@ -6,16 +6,15 @@ use Rattle.std.proofs.lemmas.Bool.Decides.{eqb_tells}
 use Rattle.std.specs.Prelude.{Option, Some, None, Result, Ok, Err, IfErr, IsErrOf, OnErr, is_ok, nat_lt}
 use Rattle.words.specs.declared.call.Call.{Call}
 use Rattle.words.specs.declared.call.Client.{Client}
-use Rattle.words.specs.declared.call.Reply.{Reply}
 use Rattle.words.specs.declared.refusal.Refusal.{Refusal}
 use Rattle.words.specs.declared.refusal.Refusal.TheVariants.{NoMemory}
+use Rattle.directory.specs.UnderWay.{HaveSameDirectory}
 use Rattle.protocol.specs.declared.UnderWay.{UnderWay}
 use Rattle.recover.specs.declared.recovery.Recovery.{Recovery}
-use Rattle.interleave.specs.Calls.{waiting_result}
 use Rattle.interleave.specs.Rules.{starting, stepping}
-use Rattle.interleave.specs.State.{State, after_bump_load, after_call_began, after_recover, after_start, after_step, number_to_start, recover_result, recover_with, start_with, step_with, used_by, is_down}
+use Rattle.interleave.specs.State.{State, after_bump_load, after_call_began, after_recover, after_start, after_step, number_to_start, recover_result, recover_with, start_with, step_with, used_by}
 use Rattle.named.specs.Acting.{IsActAt, IsSameBeside}
-use Rattle.named.specs.Brokers.{Brokered, admission, quiet, world_after, world_at}
+use Rattle.named.specs.Brokers.{Brokered, IsWell, admission, quiet, world_after, world_at}
 use Rattle.named.specs.Slots.{acted, answered}
 use Rattle.named.specs.Stopping.{IsQueueOn, IsQueueRecovered, IsRecoveryStep, IsSameButRoom}
 use Rattle.named.specs.declared.recovery.BrokerRecovery.{BrokerRecovery}
@@ -24,13 +23,22 @@ use Rattle.session.specs.Keeping.{IsKeptNow}
 use Rattle.session.specs.Requests.{IsAdvanced, last_after}
 use Rattle.session.specs.Sessions.{Sessioned, kept_in}
 use Rattle.words.specs.declared.told.Verdict.{Verdict}
+use Rattle.broker_script.proofs.SameWords.{same_words}
 use Rattle.broker_script.specs.Play.{Played}
 use Rattle.broker_script.specs.PutOff.{IsAsBefore, IsPutOff, PutsOff}
 use Rattle.playing.specs.declared.put_off.Unfollowed.{Unfollowed}
 use Rattle.playing.specs.declared.put_off.Unfollowed.TheVariants.{PutOff, Halfway}
 
 pub as_before : (b : Brokered) → IsAsBefore b b
-as_before b = record { counts = refl; worlds = λ slot. refl; directory = refl; creation = refl; recovery = refl }
+as_before b = record {
+  counts = refl;
+  cached = refl;
+  kept = refl;
+  worlds = λ slot. refl;
+  directory = refl;
+  creation = refl;
+  recovery = refl;
+}
 
 -- a line of which nothing was made
 pub nothing_made : (p : Played) → IsPutOff p p
@@ -53,25 +61,40 @@ still_kept old new slot client last now same at other = go (cases_eq at slot) (c
 pub roomier : (old new : Brokered) → IsSameButRoom old new → IsAsBefore old new
 roomier old new by = record {
   counts = ap (λ (b : Brokered). b.counts) by.same;
+  cached = ap (λ (b : Brokered). b.words.cached) by.same;
+  kept = ap (λ (b : Brokered). b.words.kept) by.same;
   worlds = λ slot. ap quiet (by.worlds slot);
   directory = ap (λ (b : Brokered). b.directory) by.same;
   creation = ap (λ (b : Brokered). b.creation) by.same;
   recovery = ap (λ (b : Brokered). b.recovery) by.same;
 }
 
+-- where the worlds, and the words of the directory, are as they were, each word is
+all_as_before : (old new : Brokered) → IsWell old → IsWell new → new.counts ≡ old.counts
+    → ((slot : ℕ) → quiet (world_at new slot) ≡ quiet (world_at old slot)) → HaveSameDirectory old.words new.words
+    → new.directory ≡ old.directory → new.creation ≡ old.creation → new.recovery ≡ old.recovery → IsAsBefore old new
+all_as_before old new well well_now counts worlds front directory creation recovery =
+    let words = same_words old new well well_now counts worlds front in
+    record {
+      counts = counts;
+      cached = words.cached;
+      kept = words.kept;
+      worlds = worlds;
+      directory = directory;
+      creation = creation;
+      recovery = recovery;
+    }
+
 -- an act on one slot that leaves its world as it was
-pub beside_one : (slot : ℕ) (old new : Brokered) → IsSameBeside slot old new
+pub beside_one : (slot : ℕ) (old new : Brokered) → IsWell old → IsWell new → IsSameBeside slot old new
     → quiet (world_at new slot) ≡ quiet (world_at old slot) → IsAsBefore old new
-beside_one slot old new beside here = record {
-  counts = beside.counts;
-  worlds = λ other. elim (eqb_tells other slot) [
-    | inl same ↦ ap (λ (n : ℕ). quiet (world_at new n)) same.1 ∙ here ∙ ap (λ (n : ℕ). quiet (world_at old n)) (sym same.1)
-    | inr apart ↦ beside.others other apart.1
-  ];
-  directory = beside.directory;
-  creation = beside.creation;
-  recovery = beside.recovery;
-}
+beside_one slot old new well well_now beside here =
+    all_as_before old new well well_now beside.counts
+    (λ other. elim (eqb_tells other slot) [
+      | inl same ↦ ap (λ (n : ℕ). quiet (world_at new n)) same.1 ∙ here ∙ ap (λ (n : ℕ). quiet (world_at old n)) (sym same.1)
+      | inr apart ↦ beside.others other apart.1
+    ])
+    beside.directory_words beside.directory beside.creation beside.recovery
 
 -- a start that is refused memory had its one access
 bumped : (w : State) (client : Client) (number : ℕ) (call : Call) (used : Bool)
@@ -104,25 +127,26 @@ quiet_after f same true o = quiet_acted f same o
 quiet_after f same false o = refl
 
 pub start_left : (old new : Brokered) (slot : ℕ) (client : Client) (number : ℕ) (call : Call)
-    → world_at new slot ≡ world_after (λ w. after_start true w client number call) old slot client
+    → IsWell old → IsWell new → world_at new slot ≡ world_after (λ w. after_start true w client number call) old slot client
     → IsSameBeside slot old new → IsAsBefore old new
-start_left old new slot client number call world beside =
+start_left old new slot client number call well well_now world beside =
     let f : State → State = λ w. after_start true w client number call in
-    beside_one slot old new beside (ap quiet world
+    beside_one slot old new well well_now beside (ap quiet world
     ∙ quiet_after f (λ w. start_quiet w client call (number_to_start w client number)) (is_ok (admission old client)) (world_at old slot))
 
 start_refused : (old new : Brokered) (slot : ℕ) (client : Client) (number : ℕ) (call : Call)
-    → IsActAt (starting client number call) slot client old (Err NoMemory) new → IsSameBeside slot old new
-    → IsAsBefore old new
-start_refused old new slot client number call act beside = start_left old new slot client number call act.world beside
+    → IsWell old → IsWell new → IsActAt (starting client number call) slot client old (Err NoMemory) new
+    → IsSameBeside slot old new → IsAsBefore old new
+start_refused old new slot client number call well well_now act beside =
+    start_left old new slot client number call well well_now act.world beside
 
-step_refused : (old new : Brokered) (slot : ℕ) (client : Client)
+step_refused : (old new : Brokered) (slot : ℕ) (client : Client) → IsWell old → IsWell new
     → IsActAt (stepping client) slot client old (Err NoMemory) new → IsSameBeside slot old new → IsAsBefore old new
-step_refused old new slot client act beside =
+step_refused old new slot client well well_now act beside =
     let f : State → State = λ w. after_step true w client in
     let same : (w : State) → quiet (Some (f w)) ≡ quiet (Some w) =
     λ w. ap (λ (v : State). quiet (Some v)) (step_same w client _) in
-    beside_one slot old new beside (ap quiet act.world
+    beside_one slot old new well well_now beside (ap quiet act.world
     ∙ quiet_after f same (is_ok (admission old client)) (world_at old slot))
 
 -- and of a step of recovery
@@ -132,32 +156,30 @@ under_way old new slot (Err refusal) on = (on.1, on.2)
 under_way old new slot (Ok true) on = let e = on.0 in absurd (cc)
 under_way old new slot (Ok false) on = let e = on.0 in absurd (cc)
 
-queue_refused : (old new : Brokered) (slot : ℕ) → IsQueueRecovered old new slot (Err NoMemory) → IsAsBefore old new
-queue_refused old new slot by =
+queue_refused : (old new : Brokered) (slot : ℕ) → IsWell old → IsWell new → IsQueueRecovered old new slot (Err NoMemory)
+    → IsAsBefore old new
+queue_refused old new slot well well_now by =
     let f : State → State = after_recover true in
     let same : (w : State) → quiet (Some (f w)) ≡ quiet (Some w) =
     λ w. ap (λ (v : State). quiet (Some v)) (recover_same w w.recovery) in
     let here : quiet (world_at new slot) ≡ quiet (world_at old slot) = ap quiet by.world ∙ quiet_acted f same (world_at old slot) in
     let on = under_way old new slot (answered (recover_result true) (world_at old slot)) by.next in
-    record {
-      counts = by.counts;
-      worlds = λ other. elim (eqb_tells other slot) [
-        | inl same_slot ↦ ap (λ (n : ℕ). quiet (world_at new n)) same_slot.1 ∙ here ∙ ap (λ (n : ℕ). quiet (world_at old n)) (sym same_slot.1)
-        | inr apart ↦ by.others other apart.1
-      ];
-      directory = by.directory;
-      creation = on.1;
-      recovery = on.0;
-    }
+    all_as_before old new well well_now by.counts
+    (λ other. elim (eqb_tells other slot) [
+      | inl same_slot ↦ ap (λ (n : ℕ). quiet (world_at new n)) same_slot.1 ∙ here ∙ ap (λ (n : ℕ). quiet (world_at old n)) (sym same_slot.1)
+      | inr apart ↦ by.others other apart.1
+    ])
+    by.directory_words by.directory on.1 on.0
 
-recovery_refused_at : (old new : Brokered) (recovery : Option BrokerRecovery)
+recovery_refused_at : (old new : Brokered) (recovery : Option BrokerRecovery) → IsWell old → IsWell new
     → IsRecoveryStep old new (Err NoMemory) recovery → IsAsBefore old new
-recovery_refused_at old new None step = let e = step.0 in absurd (cc)
-recovery_refused_at old new (Some (ReadDirectory at)) step = let e = step.answer in absurd (cc)
-recovery_refused_at old new (Some (RecoverQueue slot)) step = queue_refused old new slot.0 step
+recovery_refused_at old new None well well_now step = let e = step.0 in absurd (cc)
+recovery_refused_at old new (Some (ReadDirectory at)) well well_now step = let e = step.answer in absurd (cc)
+recovery_refused_at old new (Some (RecoverQueue slot)) well well_now step = queue_refused old new slot.0 well well_now step
 
-recovery_refused : (old new : Brokered) → IsRecoveryStep old new (Err NoMemory) old.recovery → IsAsBefore old new
-recovery_refused old new step = recovery_refused_at old new old.recovery step
+recovery_refused : (old new : Brokered) → IsWell old → IsWell new → IsRecoveryStep old new (Err NoMemory) old.recovery
+    → IsAsBefore old new
+recovery_refused old new well well_now step = recovery_refused_at old new old.recovery well well_now step
 
 -- a player whose session was refused memory
 module _ (p inside : Played) (is : inside ≡ p) (s : Sessioned) where
@@ -172,21 +194,22 @@ module _ (p inside : Played) (is : inside ≡ p) (s : Sessioned) where
 
 -- by which refusal it was
 pub start_put_off : (p inside : Played) → inside ≡ p → (s : Sessioned) (slot : ℕ) (client : Client) (number : ℕ)
-    (call : Call) (refusal : Refusal) → refusal ≡ NoMemory
+    (call : Call) (refusal : Refusal) → IsWell inside.broker → IsWell s.broker → refusal ≡ NoMemory
     → IsActAt (starting client number call) slot client inside.broker (Err refusal) s.broker
     → IsSameBeside slot inside.broker s.broker → s.kept ≡ inside.kept
     → IsPutOff p (record inside { broker = s.broker; kept = s.kept })
-start_put_off p inside is s slot client number call refusal memory act beside kept =
-    put_off p inside is s (start_refused inside.broker s.broker slot client number call
+start_put_off p inside is s slot client number call refusal well well_now memory act beside kept =
+    put_off p inside is s (start_refused inside.broker s.broker slot client number call well well_now
     (subst (λ (e : Refusal). IsActAt (starting client number call) slot client inside.broker (Err e) s.broker) memory act) beside)
     (λ at other. ap (λ k. kept_in k at other) kept)
 
 pub step_put_off : (p inside : Played) → inside ≡ p → (s : Sessioned) (slot : ℕ) (client : Client) (number : Option ℕ)
-    (refusal : Refusal) → refusal ≡ NoMemory → IsAdvanced inside.broker s.broker slot client (Err refusal)
+    (refusal : Refusal) → IsWell inside.broker → IsWell s.broker → refusal ≡ NoMemory
+    → IsAdvanced inside.broker s.broker slot client (Err refusal)
     → IsKeptNow inside.kept s.kept slot client.0 (last_after number (Err refusal) (kept_in inside.kept slot client.0))
     → IsPutOff p (record inside { broker = s.broker; kept = s.kept })
-step_put_off p inside is s slot client number refusal memory by kept =
-    put_off p inside is s (step_refused inside.broker s.broker slot client
+step_put_off p inside is s slot client number refusal well well_now memory by kept =
+    put_off p inside is s (step_refused inside.broker s.broker slot client well well_now
     (subst (λ (e : Refusal). IsActAt (stepping client) slot client inside.broker (Err e) s.broker) memory by.act) by.beside)
     (still_kept inside.kept s.kept slot client.0 _ kept (unheard number))
   where
@@ -195,11 +218,11 @@ step_put_off p inside is s slot client number refusal memory by kept =
     unheard (Some n) = refl
     unheard None = refl
 
-pub recovery_put_off : (p inside : Played) → inside ≡ p → (s : Sessioned) (refusal : Refusal) → refusal ≡ NoMemory
-    → IsRecoveryStep inside.broker s.broker (Err refusal) inside.broker.recovery → s.kept ≡ inside.kept
+pub recovery_put_off : (p inside : Played) → inside ≡ p → (s : Sessioned) (refusal : Refusal) → IsWell inside.broker
+    → IsWell s.broker → refusal ≡ NoMemory → IsRecoveryStep inside.broker s.broker (Err refusal) inside.broker.recovery → s.kept ≡ inside.kept
     → IsPutOff p (record inside { broker = s.broker; kept = s.kept })
-recovery_put_off p inside is s refusal memory step kept =
-    put_off p inside is s (recovery_refused inside.broker s.broker
+recovery_put_off p inside is s refusal well well_now memory step kept =
+    put_off p inside is s (recovery_refused inside.broker s.broker well well_now
     (subst (λ (e : Refusal). IsRecoveryStep inside.broker s.broker (Err e) inside.broker.recovery) memory step))
     (λ at other. ap (λ k. kept_in k at other) kept)
 

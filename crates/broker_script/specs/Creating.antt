@@ -5,7 +5,7 @@ use Rattle.words.specs.declared.refusal.Refusal.{Refusal}
 use Rattle.words.specs.declared.refusal.Refusal.TheVariants.{NotReady, Idle}
 use Rattle.arena.specs.declared.broker.SlotId.{SlotId}
 use Rattle.directory.specs.Creation.{successor}
-use Rattle.directory.specs.Directory.{HasQueue}
+use Rattle.directory.specs.Directory.{Directory, HasQueue}
 use Rattle.directory.specs.declared.queue.Queue.{Queue}
 use Rattle.named.specs.Brokers.{Brokered, is_down, quiet, world_at, IsBegun, IsNotCreated, IsStepCreated, MayCreate}
 use Rattle.named.specs.GoingOn.{BrokerGoesOn}
@@ -14,6 +14,10 @@ use Rattle.playing.specs.declared.lines.Line.TheVariants.{Refused}
 use Rattle.broker_script.specs.Play.{Played}
 use Rattle.broker_script.specs.declared.printed.Printed.{Printed}
 use Rattle.broker_script.specs.declared.printed.Printed.TheVariants.{Whole, Created, Creating}
+
+-- the slot has a queue
+abbrev pub HasSomeQueue : Directory → ℕ → Type 0
+HasSomeQueue directory slot = (queue : Queue) × HasQueue directory slot queue
 
 -- a step of the creation that is under way, or why there is none
 pub record IsCreationStep (old : Brokered) (result : Result (Option SlotId) Refusal) (new : Brokered) : Type 0 where

@@ -5,6 +5,7 @@ use Rattle.words.specs.Text.{value_text}
 use Rattle.words.specs.declared.call.Call.{Call}
 use Rattle.words.specs.declared.call.Call.TheVariants.{Enq as enq_call, Deq as deq_call}
 use Rattle.arena.specs.Limits.{AreCounts}
+use Rattle.arena.specs.Shape.{Counts}
 use Rattle.directory.specs.Name.{IsName}
 use Rattle.grammar.specs.Grammar.{command_words, kind_word, IsServed}
 use Rattle.grammar.specs.Lines.{words_of}
@@ -20,6 +21,10 @@ use Rattle.broker_script.specs.declared.statements.Statement.TheVariants.{Create
 -- `broker T K`
 abbrev pub broker_words : BrokerLine → List (List ℕ)
 broker_words broker = codes "broker" ∷ decimal broker.clients ∷ decimal broker.records ∷ []
+
+-- how many clients and records each of its queues has
+abbrev pub counts_by : BrokerLine → Counts
+counts_by broker = record { clients = broker.clients; records = broker.records }
 
 -- the word before a line on the queue of this name: `NAME:`
 abbrev pub label : List ℕ → List ℕ
@@ -106,10 +111,14 @@ IsServedStatement (On name command) = IsName name × IsServed command × (is_who
 IsServedStatement (Told name client) = IsName name × (client.0 ≤ MAX_CLIENT_NUMBER)
 IsServedStatement (Asks name ask) = IsName name × IsServedAsk ask
 
--- a line says this broker, or this: it has its words, within the limits
+-- a line says this broker, or this, or the rest of one asks for this: it has its words, within the limits
 pub record SaysBroker (line : List ℕ) (broker : BrokerLine) : Type 0 where
   pub words : words_of line ≡ broker_words broker
   pub served : IsServedBroker broker
+
+pub record SaysAsk (text : List ℕ) (ask : Ask) : Type 0 where
+  pub words : words_of text ≡ ask_words ask
+  pub served : IsServedAsk ask
 
 pub record SaysStatement (line : List ℕ) (statement : Statement) : Type 0 where
   pub words : words_of line ≡ statement_words statement

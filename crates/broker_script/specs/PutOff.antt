@@ -9,10 +9,12 @@ use Rattle.broker_script.specs.declared.printed.Printed.TheVariants.{Whole}
 use Rattle.playing.specs.declared.put_off.Unfollowed.{Unfollowed}
 use Rattle.playing.specs.declared.put_off.Unfollowed.TheVariants.{PutOff, Halfway}
 
--- each queue's world, the directory, what is under way and what is kept of each client are as before. How many accesses the memory had may differ,
--- and so may the room in histories
+-- each word, each queue's world, the directory, what is under way and what is kept of each client are as before. How
+-- many accesses the memory had may differ, and so may the room in histories
 pub record IsAsBefore (old new : Brokered) : Type 0 where
   pub counts : new.counts ≡ old.counts
+  pub cached : new.words.cached ≡ old.words.cached
+  pub kept : new.words.kept ≡ old.words.kept
   pub worlds : (slot : ℕ) → quiet (world_at new slot) ≡ quiet (world_at old slot)
   pub directory : new.directory ≡ old.directory
   pub creation : new.creation ≡ old.creation

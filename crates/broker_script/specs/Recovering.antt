@@ -17,10 +17,12 @@ use Rattle.broker_script.specs.declared.printed.Printed.TheVariants.{Whole, Of}
 abbrev pub of_queue : List ℕ → List Line → List Printed
 of_queue name lines = map (Of name) lines
 
--- what each client of the queue in a slot is told; of a free slot nothing
+-- what each client of the queue in a slot is told, with its name before each line; of a free slot nothing
+abbrev pub told_at_slot : Played → ℕ → List Line
+told_at_slot p slot = told_lines (told_at (the_world p.broker slot)) p.broker.counts.clients
+
 abbrev pub told_in_slot : Played → ℕ → Option (Option Queue) → List Printed
-told_in_slot p slot (Some (Some queue)) =
-    of_queue queue.name (told_lines (told_at (the_world p.broker slot)) p.broker.counts.clients)
+told_in_slot p slot (Some (Some queue)) = of_queue queue.name (told_at_slot p slot)
 told_in_slot p slot (Some None) = []
 told_in_slot p slot None = []
 

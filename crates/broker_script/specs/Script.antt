@@ -1,11 +1,13 @@
 -- What a text says as a broker's script, and which of its lines is the first bad one.
-use Rattle.std.specs.Prelude.{◌≡◌, ◌≤◌, ◌<◌, ℕ, ◌-◌, Bool, true, false, not, ◌&&◌, ◌||◌, List, [], ◌∷◌, ◌++◌, Option, Some, None, IfSome, length, map, take, filter, All, bytes_eq}
+use Rattle.std.specs.Prelude.{◌≡◌, ◌⊎◌, ◌≤◌, ◌<◌, ℕ, ◌-◌, Bool, true, false, not, ◌&&◌, ◌||◌, List, [], ◌∷◌, ◌++◌, Option, Some, None, IfSome, length, map, take, filter, All, bytes_eq}
 use Rattle.std.specs.List.{list_any}
+use Rattle.words.specs.declared.refusal.Refusal.{Refusal}
+use Rattle.words.specs.declared.refusal.Refusal.TheVariants.{BadLine, NoMemory}
 use Rattle.grammar.specs.Grammar.{is_on}
 use Rattle.grammar.specs.Lines.{words_of, is_statement}
 use Rattle.grammar.specs.declared.commands.Command.{Command}
 use Rattle.grammar.specs.declared.limits.TheConstants.{MAX_LINES}
-use Rattle.broker_script.specs.Grammar.{broker_words, statement_words, IsServedBroker, IsServedStatement}
+use Rattle.broker_script.specs.Grammar.{broker_words, statement_words, IsServedBroker, IsServedStatement, SaysStatement}
 use Rattle.broker_script.specs.declared.statements.BrokerLine.{BrokerLine}
 use Rattle.broker_script.specs.declared.statements.Statement.{Statement}
 use Rattle.broker_script.specs.declared.statements.Statement.TheVariants.{Create, BeginCreation, On}
@@ -56,6 +58,18 @@ pub record IsFirstBad (lines : List (List ℕ)) (number : ℕ) : Type 0 where
   pub good : (broker : Option BrokerLine) × (statements : List Statement)
       × Says (take (number - 1) lines) broker statements
   pub bad : (broker : Option BrokerLine) (statements : List Statement) → Says (take number lines) broker statements → ⊥
+
+-- why lines are not read as a script: there was no memory, or this is the first bad one
+abbrev pub IsWhyUnread : List (List ℕ) → Refusal → Type 0
+IsWhyUnread lines refusal =
+    (refusal ≡ NoMemory) ⊎ ((number : ℕ) × (refusal ≡ BadLine number) × IsFirstBad lines number)
+
+-- a line says this, and it may come after these; it says nothing that may
+abbrev pub SaysAfter : List Statement → List ℕ → Statement → Type 0
+SaysAfter before line statement = SaysStatement line statement × (may_follow before statement ≡ true)
+
+abbrev pub SaysNoneAfter : List Statement → List ℕ → Type 0
+SaysNoneAfter before line = (statement : Statement) → SaysStatement line statement → may_follow before statement ≡ true → ⊥
 
 -- whatever lines said the script so far, they say the new one with this line
 abbrev pub Continues : Option BrokerLine → List Statement → List ℕ → Option BrokerLine → List Statement → Type 0

@@ -27,6 +27,7 @@ use Rattle.playing.specs.declared.lines.Line.{Line}
 use Rattle.playing.specs.declared.lines.Line.TheVariants.{Size, Refused, Crash as crash_line}
 use Rattle.broker_script.specs.Asking.{FollowsAsk}
 use Rattle.broker_script.specs.Creating.{BeginsCreation, Creates}
+use Rattle.broker_script.specs.Grammar.{counts_by}
 use Rattle.broker_script.specs.Imaging.{Boots, Images, SetsWord}
 use Rattle.broker_script.specs.OnQueue.{found_line, FollowsOn, IsToldLine}
 use Rattle.broker_script.specs.Play.{Played, new_played, session_of}
@@ -145,20 +146,24 @@ pub data FollowsAll : Played → List Statement → List Printed → Type 0 wher
       (rest : List Printed) (put_off : IsPutOff old next) (lines : FollowsAll next (statement ∷ statements) rest)
       → FollowsAll old (statement ∷ whole Again ∷ statements) (no_memory ∷ rest)
 
--- the lines of a script: the size of a new broker's memory, and what the lines on a session over it give; none where
--- there is no broker
-pub record IsPlayedOn (counts : Counts) (statements : List Statement) (lines : List Printed) : Type 0 where
+-- the lines of a script that is followed so: the size of a new broker's memory, and what the lines on a session over it
+-- give; none where there is no broker
+pub record IsPlayedBy (follows : Played → List Statement → List Printed → Type 0) (counts : Counts)
+    (statements : List Statement) (lines : List Printed) : Type 0 where
   pub session : Sessioned
   pub made : IsNew counts session.broker
   pub kept : AreKeptAsHeard session.broker session.kept
   pub given : List Printed
-  pub followed : FollowsAll (new_played session) statements given
+  pub followed : follows (new_played session) statements given
   pub gives : lines ≡ Whole (Size (broker_size counts)) ∷ given
+
+abbrev pub IsPlayedOn : Counts → List Statement → List Printed → Type 0
+IsPlayedOn counts statements lines = IsPlayedBy FollowsAll counts statements lines
 
 abbrev pub AreLinesOf : Option BrokerLine → List Statement → List Printed → Type 0
 AreLinesOf None statements lines = lines ≡ []
 AreLinesOf (Some broker) statements lines =
-    IsPlayedOn (record { clients = broker.clients; records = broker.records }) statements lines
+    IsPlayedOn (counts_by broker) statements lines
 
 -- its transcript
 pub record IsTranscript (broker : Option BrokerLine) (statements : List Statement) (text : List ℕ) : Type 0 where

@@ -1,12 +1,12 @@
 //! Lines on a queue of a broker that follows a script.
 
 ghost use Rattle.std.specs.Prelude.{◌≡◌, ◌≢◌, ◌<◌, ◌∷◌, [], ℕ, false, true, Ok, Err, None, Some, IsSome, IfOk, IfErr, IsErrOf, OnOk, OnErr, option_to_list, slice_get, slice_index};
-ghost use Rattle.interleave.specs.State.{kept_content, order_in, start_result, step_result};
+ghost use Rattle.interleave.specs.State.{start_result, step_result};
 ghost use Rattle.named.specs.Brokers.{world_at};
 ghost use Rattle.named.specs.Finding.{IsPlaced};
 ghost use Rattle.playing.specs.Play.{after_steps, play_after_start, play_after_step};
 ghost use Rattle.playing.specs.Steps.{call_counted, count_after};
-ghost use Rattle.playing.specs.Transcript.{order_lines, start_line, step_lines};
+ghost use Rattle.playing.specs.Transcript.{command_lines, start_line, step_lines};
 ghost use Rattle.grammar.specs.Grammar.{is_shown};
 ghost use Rattle.broker_script.specs.Grammar.{is_whole};
 ghost use Rattle.broker_script.specs.OnQueue.{answer_line, has_line, Follows, FollowsOn, FollowsPlaced, IsAnsweredBy, IsFollowedIn, IsOnlyIn};
@@ -174,8 +174,7 @@ impl Player {
     /// Shows what the queue in a slot holds.
     fn show_content(&self, alloc: Global, slot: SlotId) -> Result<Vec<Line>, Refusal>
         requires { IsSome (world_at self.now.broker slot.0) }
-        ensures lines { IfOk result (λ lines.
-            lines.items ≡ Line.Content (kept_content (the_world self.now.broker slot.0)) ∷ []) }
+        ensures lines { IfOk result (λ lines. lines.items ≡ command_lines (play_at self.now slot.0) Command.Content) }
         ensures errors { IfErr result (λ e. e ≡ Refusal.NoMemory) }
     {
         let values = self.session.broker().content(slot)?;
@@ -185,8 +184,7 @@ impl Player {
     /// Shows in which order the calls on the queue in a slot took effect.
     fn show_order(&self, alloc: Global, slot: SlotId) -> Result<Vec<Line>, Refusal>
         requires { IsSome (world_at self.now.broker slot.0) }
-        ensures lines { IfOk result (λ lines. lines.items
-            ≡ order_lines (the_world self.now.broker slot.0).log.events (order_in (the_world self.now.broker slot.0))) }
+        ensures lines { IfOk result (λ lines. lines.items ≡ command_lines (play_at self.now slot.0) Command.Order) }
         ensures errors { IfErr result (λ e. e ≡ Refusal.NoMemory) }
     {
         let order = self.session.broker().order(slot)?;

@@ -3,7 +3,7 @@
 ghost use Rattle.std.specs.Prelude.{◌≡◌, ◌∷◌, [], IfOk, IfErr, IfSome, IfNone, IsSome, None};
 ghost use Rattle.directory.specs.Directory.{HasQueue};
 ghost use Rattle.directory.specs.declared.queue.Queue.{Queue as Place};
-ghost use Rattle.broker_script.specs.Creating.{BeginsCreation, Creates, IsBegunOn, IsCreatedOn};
+ghost use Rattle.broker_script.specs.Creating.{BeginsCreation, Creates, HasSomeQueue, IsBegunOn, IsCreatedOn};
 ghost use Rattle.broker_script.specs.PutOff.{PutsOff};
 ghost use Rattle.broker_script.specs.declared.printed.Printed.TheVariants.{Created};
 
@@ -35,7 +35,7 @@ impl Player {
     /// Shows the queue that a creation opened in a slot.
     fn show_created(&self, room: Room, slot: SlotId) -> Vec<Printed>
         requires ready { self.now.broker.recovery ≡ None }
-        requires opened { (queue : Place) × HasQueue self.now.broker.directory slot.0 queue }
+        requires opened { HasSomeQueue self.now.broker.directory slot.0 }
         ensures line { (queue : Place) × HasQueue self.now.broker.directory slot.0 queue
             × (result.items ≡ Created queue.name slot self.now.creation ∷ []) }
     {
@@ -50,8 +50,8 @@ impl Player {
     /// One step of the creation that is under way.
     fn create_step(&mut self) -> Result<Option<SlotId>, Refusal>
         ensures step { IsCreatedOn self.old result self.new }
-        ensures opened { IfOk result (λ opened. IfSome opened (λ slot.
-            (queue : Place) × HasQueue self.new.broker.directory slot.0 queue)) }
+        ensures opened { IfOk result
+            (λ opened. IfSome opened (λ slot. HasSomeQueue self.new.broker.directory slot.0)) }
         ensures ready { IfOk result (λ opened. self.new.broker.recovery ≡ None) }
     {
         match self.session.create_step() {

@@ -21,7 +21,7 @@ mod statements;
 mod whole;
 
 pub use acts::accepted_acts;
-pub use laws::one_script_a_text;
+pub use laws::{no_refusal_without_again, one_script_a_text, refusals_alone_differ};
 pub use parser::parse_script;
 pub use play::transcript;
 pub use player::Player;

@@ -1,10 +1,9 @@
 //! A broker's script read from its text.
 
-ghost use Rattle.std.specs.Prelude.{MatchOption, ◌≡◌, ◌⊎◌, ◌<◌, ◌||◌, ℕ, List, ◌∷◌, [], ◌++◌, Option, None, Some, Ok, IfOk, IfErr, IfNone, length, not, true, false};
+ghost use Rattle.std.specs.Prelude.{MatchOption, ◌≡◌, ◌||◌, Ok, IfOk, IfErr, Option, None, Some, not, true, false};
 ghost use Rattle.std.specs.List.{list_any};
 ghost use Rattle.grammar.specs.Lines.{lines_of};
-ghost use Rattle.broker_script.specs.Grammar.{SaysStatement};
-ghost use Rattle.broker_script.specs.Script.{Says, IsFirstBad, Continues, EndsBadly, creates, creates_for, may_follow};
+ghost use Rattle.broker_script.specs.Script.{Says, SaysAfter, SaysNoneAfter, IsWhyUnread, Continues, EndsBadly, creates, creates_for, may_follow};
 ghost use Rattle.broker_script.specs.declared.statements.Statement.{Statement};
 
 use crate::rows::{broker_line, statement};
@@ -73,9 +72,7 @@ fn may_follow(before: &[Statement], next: &Statement) -> bool
 
 /// What a line says that comes after these.
 fn statement_after(before: &[Statement], line: &[u8]) -> Option<Statement>
-    ensures { MatchOption result
-        ((statement : Statement) → SaysStatement line.now statement → may_follow before.now statement ≡ true → ⊥)
-        (λ statement. SaysStatement line.now statement × (may_follow before.now statement ≡ true)) }
+    ensures { MatchOption result (SaysNoneAfter before.now line.now) (SaysAfter before.now line.now) }
 {
     let statement = statement(line)?;
     if may_follow(before, &statement) {
@@ -117,8 +114,7 @@ fn add_line(
 /// the grammar, or is past the [`MAX_LINES`]th: BadLine, with the number of the first such line.
 pub fn parse_script(alloc: Global, text: &[u8]) -> Result<Script, Refusal>
     ensures script { IfOk result (λ script. Says (lines_of text.now) script.broker script.statements) }
-    ensures errors { IfErr result (λ e. (e ≡ Refusal.NoMemory)
-        ⊎ ((number : ℕ) × (e ≡ Refusal.BadLine number) × IsFirstBad (lines_of text.now) number)) }
+    ensures errors { IfErr result (IsWhyUnread (lines_of text.now)) }
 {
     let mut broker = None;
     let mut statements = Vec::new(alloc);

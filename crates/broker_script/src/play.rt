@@ -1,7 +1,7 @@
 //! What a broker prints that follows a script.
 
 ghost use Rattle.std.specs.Prelude.{◌≡◌, ◌++◌, ◌∷◌, [], Ok, IfOk, IfErr, List, Some, false, true, slice_get};
-ghost use Rattle.broker_script.specs.Grammar.{IsServedBroker};
+ghost use Rattle.broker_script.specs.Grammar.{counts_by, IsServedBroker};
 ghost use Rattle.broker_script.specs.Play.{new_played};
 ghost use Rattle.broker_script.specs.Prints.{text_of};
 ghost use Rattle.broker_script.specs.PutOff.{no_memory, IsPutOff};
@@ -92,8 +92,7 @@ fn play(
     statements: &[Statement],
 ) -> Result<Vec<Printed>, Refusal>
     requires { IsServedBroker broker }
-    ensures lines { IfOk result (λ lines. IsPlayedOn
-        (record { clients = broker.clients; records = broker.records }) statements.now lines.items) }
+    ensures lines { IfOk result (λ lines. IsPlayedOn (counts_by broker) statements.now lines.items) }
     ensures errors { IfErr result (λ e. e ≡ Refusal.NoMemory) }
 {
     let layout = BrokerLayout::make(broker.clients, broker.records).unwrap();

@@ -3,10 +3,10 @@
 ghost use Rattle.std.specs.Prelude.{◌≡◌, ◌≢◌, ◌<◌, ◌≤◌, Ok, Err, None, Some, true, IsSome, IfOk, IfErr, length, slice_get};
 ghost use Rattle.named.specs.Brokers.{world_at};
 ghost use Rattle.named.specs.Lasting.{steps_left};
-ghost use Rattle.playing.specs.Transcript.{told_at, told_lines};
+ghost use Rattle.playing.specs.Transcript.{told_at};
 ghost use Rattle.broker_script.specs.Play.{the_world};
 ghost use Rattle.broker_script.specs.PutOff.{IsPutOff, PutsOff};
-ghost use Rattle.broker_script.specs.Recovering.{ready_lines, told_below, told_in_slot, IsRecoveredOn, Recovers, RecoversBy};
+ghost use Rattle.broker_script.specs.Recovering.{ready_lines, told_at_slot, told_below, told_in_slot, IsRecoveredOn, Recovers, RecoversBy};
 ghost use Rattle.broker_script.specs.Transcript.{Crashes};
 
 use crate::lines::{Room, append, labelled, one, refused};
@@ -51,8 +51,7 @@ impl Player {
     fn told_of_queue(&self, alloc: Global, slot: SlotId) -> Result<Vec<Line>, Refusal>
         requires ready { self.now.broker.recovery ≡ None }
         requires open { IsSome (world_at self.now.broker slot.0) }
-        ensures lines { IfOk result (λ lines.
-            lines.items ≡ told_lines (told_at (the_world self.now.broker slot.0)) self.now.broker.counts.clients) }
+        ensures lines { IfOk result (λ lines. lines.items ≡ told_at_slot self.now slot.0) }
         ensures errors { IfErr result (λ e. e ≡ Refusal.NoMemory) }
     {
         let mut lines = Vec::new(alloc);

@@ -1,6 +1,6 @@
 //! The lines that are served, a row for each.
 
-ghost use Rattle.std.specs.Prelude.{◌≡◌, ◌≢◌, ◌++◌, ◌∷◌, [], ℕ, List, MatchOption, decimal};
+ghost use Rattle.std.specs.Prelude.{◌≡◌, ◌≢◌, ◌∷◌, [], ℕ, List, MatchOption, decimal};
 ghost use Rattle.words.specs.declared.call.Call.{Call};
 ghost use Rattle.words.specs.declared.call.Client.{Client};
 ghost use Rattle.words.specs.declared.call.Kind.{Kind};
@@ -8,9 +8,10 @@ ghost use Rattle.directory.specs.Name.{IsName};
 ghost use Rattle.grammar.specs.Grammar.{kind_word};
 ghost use Rattle.grammar.specs.Limits.{IsWithin};
 ghost use Rattle.grammar.specs.Lines.{words_of};
+ghost use Rattle.grammar.specs.Reading.{Reads, Reads₂, Reads₃, SaysNone, SaysNone₂, SaysNone₃};
 ghost use Rattle.grammar.specs.declared.commands.Command.{Command};
-ghost use Rattle.broker_script.specs.Grammar.{ask_words, call_words, is_whole, label, IsServedAsk, IsServedCall, SaysBroker, SaysStatement};
-ghost use Rattle.broker_script.specs.Rows.{IsNoCreation, IsOfNoBroker, IsOfNoImage, IsOfNoQueue};
+ghost use Rattle.broker_script.specs.Grammar.{call_words, is_whole, label, IsServedCall, SaysAsk, SaysBroker, SaysStatement};
+ghost use Rattle.broker_script.specs.Rows.{IsNoCreation, IsOfNoBroker, IsOfNoImage, IsOfNoQueue, StandsAlone};
 ghost use Rattle.broker_script.specs.declared.statements.Ask.{Ask};
 ghost use Rattle.broker_script.specs.declared.statements.BrokerLine.{BrokerLine};
 ghost use Rattle.broker_script.specs.declared.statements.Statement.{Statement};
@@ -37,8 +38,7 @@ pub(crate) fn broker_line(line: &[u8]) -> Option<BrokerLine>
 
 /// The name that is all of a text.
 fn one_name(text: &[u8]) -> Option<Name>
-    ensures { MatchOption result ((name : List ℕ) → IsName name → words_of text.now ≢ name ∷ [])
-        (λ name. (words_of text.now ≡ name ∷ []) × IsName name) }
+    ensures { Reads (λ name. name ∷ []) IsName (words_of text.now) result }
 {
     match first_word(text) {
         (word, None) => Name::make(word).ok(),
@@ -48,8 +48,7 @@ fn one_name(text: &[u8]) -> Option<Name>
 
 /// The name that a text begins with, and what follows it.
 fn name_first(text: &[u8]) -> Option<(Name, &[u8])>
-    ensures { MatchOption result
-        ((name : List ℕ) (rest : List (List ℕ)) → IsName name → words_of text.now ≡ name ∷ rest → rest ≡ [])
+    ensures { MatchOption result (StandsAlone (λ name. name) IsName (words_of text.now))
         (λ r. (words_of text.now ≡ r.0 ∷ words_of r.1.now) × IsName r.0) }
 {
     let (word, rest) = first_word(text);
@@ -62,8 +61,7 @@ fn name_first(text: &[u8]) -> Option<(Name, &[u8])>
 
 /// The name before the colon of a word.
 fn labelled(word: &[u8]) -> Option<Name>
-    ensures { MatchOption result ((name : List ℕ) → IsName name → word.now ≢ label name)
-        (λ name. (word.now ≡ label name) × IsName name) }
+    ensures { Reads label IsName word.now result }
 {
     let (last, bytes) = word.split_last()?;
     if *last != b':' {
@@ -74,8 +72,7 @@ fn labelled(word: &[u8]) -> Option<Name>
 
 /// The name that labels a line, and what follows it.
 fn label_first(line: &[u8]) -> Option<(Name, &[u8])>
-    ensures { MatchOption result
-        ((name : List ℕ) (rest : List (List ℕ)) → IsName name → words_of line.now ≡ label name ∷ rest → rest ≡ [])
+    ensures { MatchOption result (StandsAlone label IsName (words_of line.now))
         (λ r. (words_of line.now ≡ label r.0 ∷ words_of r.1.now) × IsName r.0) }
 {
     let (word, rest) = first_word(line);
@@ -114,9 +111,7 @@ fn kind_and_steps(text: &[u8]) -> Option<(Kind, u64)>
 
 /// `create NAME KIND`
 fn create(line: &[u8]) -> Option<Statement>
-    ensures { MatchOption result
-        ((name : List ℕ) (kind : Kind) → SaysStatement line.now (Statement.Create name kind) → ⊥)
-        (SaysStatement line.now) }
+    ensures { MatchOption result (SaysNone₂ (SaysStatement line.now) Statement.Create) (SaysStatement line.now) }
 {
     let Some((name, rest)) = name_first(after_name(line, b"create")?) else {
         return None;
@@ -127,9 +122,7 @@ fn create(line: &[u8]) -> Option<Statement>
 
 /// `create NAME KIND M`
 fn begin_creation(line: &[u8]) -> Option<Statement>
-    ensures { MatchOption result
-        ((name : List ℕ) (kind : Kind) (most : ℕ) → SaysStatement line.now (Statement.BeginCreation name kind most) → ⊥)
-        (SaysStatement line.now) }
+    ensures { MatchOption result (SaysNone₃ (SaysStatement line.now) Statement.BeginCreation) (SaysStatement line.now) }
 {
     let Some((name, rest)) = name_first(after_name(line, b"create")?) else {
         return None;
@@ -155,8 +148,7 @@ fn create_step(line: &[u8]) -> Option<Statement>
 
 /// `create-step M`
 fn create_steps(line: &[u8]) -> Option<Statement>
-    ensures { MatchOption result ((most : ℕ) → SaysStatement line.now (Statement.CreateSteps most) → ⊥)
-        (SaysStatement line.now) }
+    ensures { MatchOption result (SaysNone (SaysStatement line.now) Statement.CreateSteps) (SaysStatement line.now) }
 {
     let Some(steps) = after_name(line, b"create-step") else {
         return None;
@@ -167,8 +159,7 @@ fn create_steps(line: &[u8]) -> Option<Statement>
 
 /// `find NAME`
 fn find(line: &[u8]) -> Option<Statement>
-    ensures { MatchOption result ((name : List ℕ) → SaysStatement line.now (Statement.Find name) → ⊥)
-        (SaysStatement line.now) }
+    ensures { MatchOption result (SaysNone (SaysStatement line.now) Statement.Find) (SaysStatement line.now) }
 {
     let name = one_name(after_name(line, b"find")?)?;
     Some(Statement::Find { name })
@@ -176,8 +167,7 @@ fn find(line: &[u8]) -> Option<Statement>
 
 /// `renew NAME`
 fn renew(line: &[u8]) -> Option<Statement>
-    ensures { MatchOption result ((name : List ℕ) → SaysStatement line.now (Statement.Renew name) → ⊥)
-        (SaysStatement line.now) }
+    ensures { MatchOption result (SaysNone (SaysStatement line.now) Statement.Renew) (SaysStatement line.now) }
 {
     let name = one_name(after_name(line, b"renew")?)?;
     Some(Statement::Renew { name })
@@ -218,9 +208,7 @@ fn image(line: &[u8]) -> Option<Statement>
 
 /// `set W N`
 fn set_word(line: &[u8]) -> Option<Statement>
-    ensures { MatchOption result
-        ((word value : ℕ) → SaysStatement line.now (Statement.SetWord word value) → ⊥)
-        (SaysStatement line.now) }
+    ensures { MatchOption result (SaysNone₂ (SaysStatement line.now) Statement.SetWord) (SaysStatement line.now) }
 {
     let Some(numbers) = after_name(line, b"set") else {
         return None;
@@ -256,8 +244,7 @@ pub(crate) fn is_whole(command: &Command) -> bool
 
 /// `evict W`, `crash`, `recover`, `recover M`, `again`
 fn whole(line: &[u8]) -> Option<Statement>
-    ensures { MatchOption result ((command : Command) → SaysStatement line.now (Statement.Whole command) → ⊥)
-        (SaysStatement line.now) }
+    ensures { MatchOption result (SaysNone (SaysStatement line.now) Statement.Whole) (SaysStatement line.now) }
 {
     let command = command(line)?;
     if is_whole(&command) {
@@ -269,9 +256,7 @@ fn whole(line: &[u8]) -> Option<Statement>
 
 /// `NAME: ` and a line of a queue's script.
 fn on(line: &[u8]) -> Option<Statement>
-    ensures { MatchOption result
-        ((name : List ℕ) (command : Command) → SaysStatement line.now (Statement.On name command) → ⊥)
-        (SaysStatement line.now) }
+    ensures { MatchOption result (SaysNone₂ (SaysStatement line.now) Statement.On) (SaysStatement line.now) }
 {
     let Some((name, rest)) = label_first(line) else {
         return None;
@@ -286,9 +271,7 @@ fn on(line: &[u8]) -> Option<Statement>
 
 /// `NAME: told C`
 fn told(line: &[u8]) -> Option<Statement>
-    ensures { MatchOption result
-        ((name : List ℕ) (client : Client) → SaysStatement line.now (Statement.Told name client) → ⊥)
-        (SaysStatement line.now) }
+    ensures { MatchOption result (SaysNone₂ (SaysStatement line.now) Statement.Told) (SaysStatement line.now) }
 {
     let Some((name, rest)) = label_first(line) else {
         return None;
@@ -302,8 +285,7 @@ fn told(line: &[u8]) -> Option<Statement>
 
 /// The number that a text begins with, and what follows it.
 fn number_first(text: &[u8], limits: Limits) -> Option<(u64, &[u8])>
-    ensures { MatchOption result
-        ((n : ℕ) (rest : List (List ℕ)) → IsWithin limits n → words_of text.now ≡ decimal n ∷ rest → rest ≡ [])
+    ensures { MatchOption result (StandsAlone decimal (IsWithin limits) (words_of text.now))
         (λ r. (words_of text.now ≡ decimal r.0 ∷ words_of r.1.now) × IsWithin limits r.0) }
 {
     let (word, rest) = first_word(text);
@@ -316,8 +298,7 @@ fn number_first(text: &[u8], limits: Limits) -> Option<(u64, &[u8])>
 
 /// `enq V`, `deq`
 fn call(text: &[u8]) -> Option<Call>
-    ensures { MatchOption result ((call : Call) → IsServedCall call → words_of text.now ≢ call_words call)
-        (λ call. (words_of text.now ≡ call_words call) × IsServedCall call) }
+    ensures { Reads call_words IsServedCall (words_of text.now) result }
 {
     if is_name(text, b"deq") {
         return Some(Call::Deq);
@@ -328,10 +309,8 @@ fn call(text: &[u8]) -> Option<Call>
 
 /// A number, and the call, which are all of a text.
 fn number_and_call(text: &[u8], limits: Limits) -> Option<(u64, Call)>
-    ensures { MatchOption result
-        ((n : ℕ) (call : Call) → IsWithin limits n → IsServedCall call
-        → words_of text.now ≢ decimal n ∷ call_words call)
-        (λ r. (words_of text.now ≡ decimal r.0 ∷ call_words r.1) × IsWithin limits r.0 × IsServedCall r.1) }
+    ensures { Reads₂ (λ n call. decimal n ∷ call_words call) (IsWithin limits) IsServedCall
+        (words_of text.now) result }
 {
     let Some((n, rest)) = number_first(text, limits) else {
         return None;
@@ -342,11 +321,8 @@ fn number_and_call(text: &[u8], limits: Limits) -> Option<(u64, Call)>
 
 /// A number of a client, that of its call, and the call, which are all of a text.
 fn numbered_call(text: &[u8]) -> Option<(u64, u64, Call)>
-    ensures { MatchOption result
-        ((client number : ℕ) (call : Call) → IsWithin CLIENT client → IsWithin NUMBER number → IsServedCall call
-        → words_of text.now ≢ decimal client ∷ decimal number ∷ call_words call)
-        (λ r. (words_of text.now ≡ decimal r.0 ∷ decimal r.1 ∷ call_words r.2)
-        × IsWithin CLIENT r.0 × IsWithin NUMBER r.1 × IsServedCall r.2) }
+    ensures { Reads₃ (λ client number call. decimal client ∷ decimal number ∷ call_words call)
+        (IsWithin CLIENT) (IsWithin NUMBER) IsServedCall (words_of text.now) result }
 {
     let Some((client, rest)) = number_first(text, CLIENT) else {
         return None;
@@ -357,10 +333,7 @@ fn numbered_call(text: &[u8]) -> Option<(u64, u64, Call)>
 
 /// `request C N CALL`
 fn request(text: &[u8]) -> Option<Ask>
-    ensures { MatchOption result
-        ((client : Client) (number : ℕ) (call : Call) → IsServedAsk (Ask.Request client number call)
-        → words_of text.now ≢ ask_words (Ask.Request client number call))
-        (λ ask. (words_of text.now ≡ ask_words ask) × IsServedAsk ask) }
+    ensures { MatchOption result (SaysNone₃ (SaysAsk text.now) Ask.Request) (SaysAsk text.now) }
 {
     let Some((client, number, call)) = numbered_call(after_name(text, b"request")?) else {
         return None;
@@ -374,10 +347,7 @@ fn request(text: &[u8]) -> Option<Ask>
 
 /// `plain C CALL`
 fn plain(text: &[u8]) -> Option<Ask>
-    ensures { MatchOption result
-        ((client : Client) (call : Call) → IsServedAsk (Ask.Plain client call)
-        → words_of text.now ≢ ask_words (Ask.Plain client call))
-        (λ ask. (words_of text.now ≡ ask_words ask) × IsServedAsk ask) }
+    ensures { MatchOption result (SaysNone₂ (SaysAsk text.now) Ask.Plain) (SaysAsk text.now) }
 {
     let (client, call) = number_and_call(after_name(text, b"plain")?, CLIENT)?;
     Some(Ask::Plain {
@@ -388,10 +358,7 @@ fn plain(text: &[u8]) -> Option<Ask>
 
 /// `begin C N CALL`
 fn begin(text: &[u8]) -> Option<Ask>
-    ensures { MatchOption result
-        ((client : Client) (number : ℕ) (call : Call) → IsServedAsk (Ask.Begin client number call)
-        → words_of text.now ≢ ask_words (Ask.Begin client number call))
-        (λ ask. (words_of text.now ≡ ask_words ask) × IsServedAsk ask) }
+    ensures { MatchOption result (SaysNone₃ (SaysAsk text.now) Ask.Begin) (SaysAsk text.now) }
 {
     let Some((client, number, call)) = numbered_call(after_name(text, b"begin")?) else {
         return None;
@@ -405,8 +372,7 @@ fn begin(text: &[u8]) -> Option<Ask>
 
 /// What a client asks the session for, as it follows the queue's name.
 fn ask(text: &[u8]) -> Option<Ask>
-    ensures { MatchOption result ((ask : Ask) → IsServedAsk ask → words_of text.now ≢ ask_words ask)
-        (λ ask. (words_of text.now ≡ ask_words ask) × IsServedAsk ask) }
+    ensures { MatchOption result ((ask : Ask) → SaysAsk text.now ask → ⊥) (SaysAsk text.now) }
 {
     if let Some(ask) = request(text) {
         return Some(ask);
@@ -419,9 +385,7 @@ fn ask(text: &[u8]) -> Option<Ask>
 
 /// `NAME: ` and what a client asks the session for.
 fn asks(line: &[u8]) -> Option<Statement>
-    ensures { MatchOption result
-        ((name : List ℕ) (ask : Ask) → SaysStatement line.now (Statement.Asks name ask) → ⊥)
-        (SaysStatement line.now) }
+    ensures { MatchOption result (SaysNone₂ (SaysStatement line.now) Statement.Asks) (SaysStatement line.now) }
 {
     let Some((name, rest)) = label_first(line) else {
         return None;

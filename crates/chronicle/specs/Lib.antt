@@ -1,2 +1,3 @@
 pub use Rattle.atomic_table.specs.Seated
+pub mod Chronicled
 pub mod Rule

@@ -1,4 +1,5 @@
 mod Placing
 mod Settling
 mod Keeping
+mod Telling
 pub mod Facts

@@ -1,10 +1,13 @@
 -- What a desk has served: the requests that were made, with their answers.
-use Rattle.std.specs.Prelude.{◌≡◌, ℕ, ◌-◌, Bool, true, false, length, List, None, Option, Some, slice_get}
+use Rattle.std.specs.Prelude.{◌≡◌, ℕ, ◌-◌, Bool, true, false, length, IfSome, IsSome, List, [], None, Option, Some, slice_get}
 use Rattle.words.specs.declared.refusal.Refusal.TheVariants.{NoClient}
 use Rattle.wire.specs.declared.answer.Answer.{Answer}
 use Rattle.wire.specs.declared.answer.Answer.TheVariants.{Refused}
 use Rattle.wire.specs.declared.request.Request.{Request}
+use Rattle.chronicle.specs.Chronicled.{Chronicled, entries}
+use Rattle.session.specs.Sessions.{Sessioned}
 use Rattle.desk.specs.Requests.{is_answer_to, is_stop_answer, NamesNoClient}
+use Rattle.desk.specs.Telling.{AreReplied}
 
 abbrev pub is_stopping : Option (Request × Answer) → Bool
 is_stopping (Some (request, answer)) = is_stop_answer answer
@@ -20,3 +23,20 @@ pub record AreAnswered (clients : ℕ) (served : List (Request × Answer)) : Typ
       → is_answer_to request answer ≡ true
   pub clients_are : (k : ℕ) (request : Request) (answer : Answer) → slice_get served k ≡ Some (request, answer)
       → NamesNoClient clients request → answer ≡ Refused NoClient
+
+-- a desk that marks: what it has served, and of that what is settled; the session as it was marked last, and the one of
+-- the last token
+pub record Desked : Type 0 where
+  pub served : Chronicled (Request × Answer)
+  pub marked : Option Sessioned
+  pub assured : Option Sessioned
+
+-- Each request has an answer that it may have. Each reply stands in its client's list at a session from which the one
+-- goes on that was marked last; and each that is settled, so for the one of the last token. Without a token nothing is
+-- settled.
+pub record IsDesked (clients : ℕ) (first : Sessioned) (d : Desked) : Type 0 where
+  pub answered : AreAnswered clients (entries d.served)
+  pub marks : IsSome d.marked
+  pub told : IfSome d.marked (λ now. AreReplied first now (entries d.served))
+  pub lasting : IfSome d.assured (λ now. AreReplied first now d.served.settled)
+  pub known : d.assured ≡ None → d.served.settled ≡ []

@@ -3,11 +3,12 @@
 ghost use Rattle.std.specs.Prelude.{◌≡◌, ◌≤◌, IfErr, IfSome, IsErr, IsNone, IsTrue};
 ghost use Rattle.desk.specs.Requests.{answer_where_done, is_answer_to, is_creation_answer};
 ghost use Rattle.desk.specs.Requests.{is_list_answer, NamesNoClient};
+ghost use Rattle.desk.specs.Telling.{GoesOnMarked, IsRepliedTo};
 ghost use Rattle.workers.specs.Refusals.{is_told_refusal};
 ghost use Rattle.wire.specs.declared.answer.Answer.{Answer as AnyAnswer};
 
 use crate::calls::nameless;
-use crate::renewing::call;
+use crate::counter::Counter;
 use crate::seating::Seating;
 use directory::Name;
 use std::sync::Wait;
@@ -74,37 +75,39 @@ fn done(outcome: Result<(), Refusal>, answer: Answer) -> Answer
     }
 }
 
-/// What a request is answered, once it was made.
-pub(crate) fn answer_to<J: Naming, R: Wait>(
-    rt: &R,
-    shared: &Shared<J>,
-    seats: &Seating<J>,
-    request: Request,
-) -> Answer
-    ensures fits { IsTrue (is_answer_to request result) }
-    ensures client { NamesNoClient J.clients request → result ≡ AnyAnswer.Refused Refusal.NoClient }
-{
-    match request {
-        Request::Create { queue, kind } => {
-            let _work = seats.at_work(rt);
-            create(rt, shared, queue, kind)
+impl<J: Naming> Counter<'_, J> {
+    /// What a request is answered, once it was made.
+    #[tactic(auto, using(crate::proofs::Telling::marked_itself))]
+    pub(crate) fn answer_to<R: Wait>(&mut self, rt: &R, request: Request) -> Answer
+        ensures fits { IsTrue (is_answer_to request result) }
+        ensures client { NamesNoClient J.clients request → result ≡ AnyAnswer.Refused Refusal.NoClient }
+        ensures told { IfSome self.new.marked (λ now. IsRepliedTo J.first now request result) }
+        ensures later { GoesOnMarked self.old.marked self.new.marked }
+    {
+        match request {
+            Request::Create { queue, kind } => {
+                let _work = self.seats.at_work(rt);
+                create(rt, self.shared, queue, kind)
+            }
+            Request::List => list(rt, self.shared),
+            Request::Put { client, .. } => self.call(rt, client, request),
+            Request::Take { client, .. } => self.call(rt, client, request),
+            Request::Told { client, queue } => {
+                match told(rt, self.shared, self.seats, client, queue) {
+                    Ok(told) => Answer::Told(told),
+                    Err(refusal) => Answer::Refused(refusal),
+                }
+            }
+            Request::Crash => {
+                let _work = self.seats.at_work(rt);
+                done(self.seats.crash(rt, self.shared), Answer::Crashed)
+            }
+            Request::Recover => {
+                let _work = self.seats.at_work(rt);
+                let (recovered, _receipt) = self.shared.recover(rt);
+                done(recovered, Answer::Ready)
+            }
+            Request::Stop => Answer::Stopping,
         }
-        Request::List => list(rt, shared),
-        Request::Put { client, .. } => call(rt, shared, seats, client, request),
-        Request::Take { client, .. } => call(rt, shared, seats, client, request),
-        Request::Told { client, queue } => match told(rt, shared, seats, client, queue) {
-            Ok(told) => Answer::Told(told),
-            Err(refusal) => Answer::Refused(refusal),
-        },
-        Request::Crash => {
-            let _work = seats.at_work(rt);
-            done(seats.crash(rt, shared), Answer::Crashed)
-        }
-        Request::Recover => {
-            let _work = seats.at_work(rt);
-            let (recovered, _receipt) = shared.recover(rt);
-            done(recovered, Answer::Ready)
-        }
-        Request::Stop => Answer::Stopping,
     }
 }

@@ -1,12 +1,14 @@
 //! The desk of a connection.
 
-ghost use Rattle.std.specs.Prelude.{◌≡◌, [], IfOk};
+ghost use Rattle.std.specs.Prelude.{◌≡◌, [], IfOk, refl};
+ghost use Rattle.chronicle.specs.Chronicled.{entries};
 ghost use Rattle.desk.specs.Requests.{is_stop_answer};
 ghost use Rattle.desk.specs.Serving.{has_stopped, AreAnswered};
 
-use crate::answering::answer_to;
+use crate::counter::Counter;
 use crate::seating::Seating;
 use chronicle::Chronicle;
+use devices::Failed;
 use engine::Desk;
 use events::copied;
 use std::alloc::{AllocError, Global};
@@ -21,16 +23,16 @@ fn is_stopping(answer: &Answer) -> bool
     matches!(answer, Answer::Stopping)
 }
 
-/// Where the requests of one connection are answered, by a broker that connections share.
+/// Where the requests of one connection are answered, by a broker that connections share. Nothing that is done is
+/// promised to last.
 #[derive(Drop)]
 pub struct BrokerDesk<'a, J: Naming> {
-    shared: &'a Shared<J>,
-    seats: &'a Seating<J>,
-    /// The requests that were made, with their answers, in order.
+    counter: Counter<'a, J>,
+    /// The requests that were made, with their answers, in order; and those of them that are settled.
     pub served: Chronicle<(Request, Answer)>,
     stopped: bool,
-    pub ghost answered: { AreAnswered J.clients served },
-    ghost stops: { stopped ≡ has_stopped served },
+    pub ghost answered: { AreAnswered J.clients (entries served) },
+    ghost stops: { stopped ≡ has_stopped (entries served) },
 }
 
 impl<'a, J: Naming> BrokerDesk<'a, J> {
@@ -40,12 +42,11 @@ impl<'a, J: Naming> BrokerDesk<'a, J> {
         shared: &'a Shared<J>,
         seats: &'a Seating<J>,
     ) -> Result<Self, AllocError>
-        ensures { IfOk result (λ desk. desk.served ≡ []) }
+        ensures { IfOk result (λ desk. entries desk.served ≡ []) }
     {
         let served = Chronicle::begin(alloc)?;
         Ok(BrokerDesk {
-            shared,
-            seats,
+            counter: Counter::new(shared, seats, None),
             served,
             stopped: false,
         })
@@ -53,22 +54,30 @@ impl<'a, J: Naming> BrokerDesk<'a, J> {
 
     /// Whether it has accepted a stop, after which nothing is served.
     pub fn is_stopped(&self) -> bool
-        ensures { result ≡ has_stopped self.now.served }
+        ensures { result ≡ has_stopped (entries self.now.served) }
     {
         self.stopped
     }
 }
 
 impl<J: Naming> Desk for BrokerDesk<'_, J> {
-    ghost served = { λ desk. desk.served };
+    ghost served = { λ desk. entries desk.served };
+
+    ghost settled = { λ desk. desk.served.settled };
+
+    ghost failures = { λ _. 0 };
 
     fn answer<R: Wait>(&mut self, rt: &R, request: Request) -> Answer {
-        let made = (
-            copied(&request),
-            answer_to(rt, self.shared, self.seats, request),
-        );
+        let made = (copied(&request), self.counter.answer_to(rt, request));
         self.stopped = is_stopping(&made.1);
         self.served.note(&made);
         made.1
     }
+
+    fn settle<R: Wait>(&mut self, _rt: &R) -> Result<(), Failed> {
+        self.served.settle();
+        Ok(())
+    }
+
+    ghost begins = { λ desk. (desk.served.unsettled, refl) };
 }

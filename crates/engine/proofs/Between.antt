@@ -1,21 +1,19 @@
 -- Between two reads.
 use Rattle.std.proofs.Common.{◌≡◌, ℕ, Bool, true, false, List, [], ◌++◌, take, drop, Option, Some, None, refl, sym, ap, subst, ◌∙◌, append_assoc}
 use Rattle.std.proofs.lemmas.List.{append-nil, nil_from_length}
-use Rattle.std.proofs.KnownBytes.{Appends-nil, Appends-trans}
-use Rattle.std.specs.Io.KnownBytes.{Appends, Consumes, IsAtEnd}
-use Rattle.devices.specs.Devices.{AppendsBeginning}
+use Rattle.std.specs.Io.KnownBytes.{Consumes, IsAtEnd}
 use Rattle.engine.specs.declared.lines.Progress.TheVariants.{Replied, Stopped}
 use Rattle.engine.specs.declared.reply.Reply.{Reply}
 use Rattle.engine.specs.Input.{Gains}
 use Rattle.engine.specs.Lines.{lines_of, last_line_of, HasNoNewline, ended_lines}
-use Rattle.engine.specs.Replies.{Meaning, Served, output_of, made_of}
+use Rattle.engine.specs.Replies.{Meaning, Served, made_of}
 use Rattle.engine.specs.Handled.{Handled, RepliesTo, RepliesAsFar, RepliesUntilFault}
 use Rattle.engine.specs.Serving.{Answers, IsInputOf, Serves, ServesWhatWasRead}
 use Rattle.engine.proofs.Fitting.{Answers-append, Answers-stopped, Answers-some, made_of-append}
 use Rattle.engine.proofs.Handling.{both_handled}
 use Rattle.engine.proofs.Long.{handled_whole, last_whole}
 use Rattle.engine.proofs.Newlines.{HasNoNewline-take}
-use Rattle.engine.proofs.Replying.{none_replied, output_of-append}
+use Rattle.engine.proofs.Replying.{none_replied}
 use Rattle.engine.proofs.WholeLines.{lines_of-ended, lines_of-last}
 
 -- what a reader that tells its bytes has left
@@ -25,22 +23,30 @@ consumed left None unread piece e p = absurd (subst (λ (o : Option (List ℕ)).
 consumed left (Some after) unread piece e p = (after, refl, subst (λ (o : Option (List ℕ)). Consumes o (Some after) piece) e p)
 
 -- the lines that ended have their replies, which were written, and of the line that did not the first bytes are held
-pub record IsBetween (m : Meaning) (input held : List ℕ) (left : Option (List ℕ)) (old now : Served) (w v : Option (List ℕ)) : Type 0 where
+pub record IsBetween (m : Meaning) (input held : List ℕ) (left : Option (List ℕ)) (old now : Served)
+    (W : List Reply → Type 0) : Type 0 where
   pub part : List ℕ
   pub unread : List ℕ
   pub left_is : left ≡ Some unread
   pub one : HasNoNewline part
   pub held_is : held ≡ take 513 part
-  pub replied : RepliesTo m false input (part ++ unread) old now (Appends w v)
+  pub replied : RepliesTo m false input (part ++ unread) old now W
 
-pub begun : (m : Meaning) (input held : List ℕ) (left : Option (List ℕ)) (served : Served) (w : Option (List ℕ)) → held ≡ [] → left ≡ Some input
-    → IsBetween m input held left served served w w
-begun m input held left served w none e =
-    record { part = []; unread = input; left_is = e; one = tt; held_is = none; replied = none_replied m input served (Appends w w) (Appends-nil w) }
+pub begun : (m : Meaning) (input held : List ℕ) (left : Option (List ℕ)) (served : Served) (W : List Reply → Type 0)
+    → held ≡ [] → left ≡ Some input → W [] → IsBetween m input held left served served W
+begun m input held left served W none e w = record {
+  part = [];
+  unread = input;
+  left_is = e;
+  one = tt;
+  held_is = none;
+  replied = none_replied m input served W w;
+}
 
-pub read_failed : (m : Meaning) (input held unread : List ℕ) (left_after : Option (List ℕ)) (old now : Served) (w v : Option (List ℕ))
-    → IsBetween m input held (Some unread) old now w v → IsInputOf left_after unread → ServesWhatWasRead m input left_after old now (Appends w v)
-read_failed m input held unread left_after old now w v b its =
+pub read_failed : (m : Meaning) (input held unread : List ℕ) (left_after : Option (List ℕ)) (old now : Served)
+    (W : List Reply → Type 0) → IsBetween m input held (Some unread) old now W → IsInputOf left_after unread
+    → ServesWhatWasRead m input left_after old now W
+read_failed m input held unread left_after old now W b its =
     let same : unread ≡ b.unread = cc (b.left_is) in
     record { part = b.part; unread = b.unread; left_is = subst (IsInputOf left_after) same its; one = b.one; replied = b.replied }
 
@@ -53,7 +59,9 @@ record Joined (m : Meaning) (stopped : Bool) (input rest : List ℕ) (left : Opt
   one : HasNoNewline rest → HasNoNewline part
   handled : Handled m stopped input (part ++ unread) replies
 
-module _ (m : Meaning) (input held held_after : List ℕ) (n : ℕ) (left left_after : Option (List ℕ)) (old mid : Served) (w v : Option (List ℕ)) (b : IsBetween m input held left old mid w v) (gains : Gains n held held_after left left_after) where
+module _ (m : Meaning) (input held held_after : List ℕ) (n : ℕ) (left left_after : Option (List ℕ)) (old mid : Served)
+    (W : List Reply → Type 0) (b : IsBetween m input held left old mid W)
+    (gains : Gains n held held_after left left_after) where
   joined : (stopped : Bool) (rest : List ℕ) (replies : List Reply) → Handled m stopped held_after rest replies
       → Joined m stopped input rest left_after (b.replied.replies ++ replies)
   joined stopped rest replies h =
@@ -79,71 +87,62 @@ module _ (m : Meaning) (input held held_after : List ℕ) (n : ℕ) (left left_a
       e ∙ ap (λ (xs : Served). xs ++ made_of replies) b.replied.served ∙ append_assoc old (made_of b.replied.replies) (made_of replies)
       ∙ ap (λ (xs : Served). old ++ xs) (sym (made_of-append b.replied.replies replies))
 
-  both_written : (u : Option (List ℕ)) (replies : List Reply) → Appends v u (output_of replies) → Appends w u (output_of (b.replied.replies ++ replies))
-  both_written u replies p =
-      subst (Appends w u) (sym (output_of-append b.replied.replies replies))
-      (Appends-trans w v u (output_of b.replied.replies) (output_of replies) b.replied.written p)
+  -- what is known of the replies so far, with what is known of those to this piece
+  module _ (new : Served) (V U : List Reply → Type 0)
+      (more : (rs ss : List Reply) → mid ≡ old ++ made_of rs → W rs → V ss → U (rs ++ ss)) where
+    both_written : (replies : List Reply) → V replies → U (b.replied.replies ++ replies)
+    both_written replies p = more b.replied.replies replies b.replied.served b.replied.written p
 
-  partly_written : (u : Option (List ℕ)) (replies : List Reply) → AppendsBeginning v u (output_of replies) → AppendsBeginning w u (output_of (b.replied.replies ++ replies))
-  partly_written u replies p =
-      let first = output_of b.replied.replies in (
-        first ++ p.0,
-        p.1,
-        output_of-append b.replied.replies replies ∙ ap (λ (xs : List ℕ). first ++ xs) p.2 ∙ sym (append_assoc first p.0 p.1),
-        Appends-trans w v u first p.0 b.replied.written p.3,
-      )
+    pub went_on : (used : ℕ) → RepliesAsFar m (Replied used) held_after mid new V
+        → IsBetween m input (take 513 (drop used held_after)) left_after old new U
+    went_on used p =
+        let r = p.2 in
+        let j = joined false (drop used held_after) r.replies r.handled in
+        record {
+          part = j.part;
+          unread = j.unread;
+          left_is = j.left_is;
+          one = j.one p.1;
+          held_is = sym j.kept_is;
+          replied = record {
+            replies = b.replied.replies ++ r.replies;
+            handled = j.handled;
+            written = both_written r.replies r.written;
+            served = both_served new r.replies r.served;
+          };
+        }
 
-  pub went_on : (used : ℕ) (new : Served) (u : Option (List ℕ)) → RepliesAsFar m (Replied used) held_after mid new (Appends v u)
-      → IsBetween m input (take 513 (drop used held_after)) left_after old new w u
-  went_on used new u p =
-      let r = p.2 in
-      let j = joined false (drop used held_after) r.replies r.handled in
-      record {
-        part = j.part;
-        unread = j.unread;
-        left_is = j.left_is;
-        one = j.one p.1;
-        held_is = sym j.kept_is;
-        replied = record {
+    pub stopped : RepliesAsFar m Stopped held_after mid new V → Serves m true (lines_of input) old new U
+    stopped p =
+        let r = p.1 in
+        let j = joined true p.0 r.replies r.handled in
+        let h = j.handled in
+        let behind = j.part ++ j.unread in
+        let lines : lines_of input ≡ h.lines ++ lines_of behind = ap lines_of h.parts ∙ lines_of-ended h.lines behind h.are_lines in
+        record {
           replies = b.replied.replies ++ r.replies;
-          handled = j.handled;
-          written = both_written u r.replies r.written;
+          answers =
+              subst (λ (xs : List (List ℕ)). Answers m true xs (b.replied.replies ++ r.replies)) (sym lines)
+              (Answers-stopped m h.lines (lines_of behind) (b.replied.replies ++ r.replies) h.fit);
+          written = both_written r.replies r.written;
           served = both_served new r.replies r.served;
-        };
-      }
+        }
 
-  pub stopped : (new : Served) (u : Option (List ℕ)) → RepliesAsFar m Stopped held_after mid new (Appends v u) → Serves m true (lines_of input) old new (Appends w u)
-  stopped new u p =
-      let r = p.1 in
-      let j = joined true p.0 r.replies r.handled in
-      let h = j.handled in
-      let behind = j.part ++ j.unread in
-      let lines : lines_of input ≡ h.lines ++ lines_of behind = ap lines_of h.parts ∙ lines_of-ended h.lines behind h.are_lines in
-      record {
-        replies = b.replied.replies ++ r.replies;
-        answers =
-            subst (λ (xs : List (List ℕ)). Answers m true xs (b.replied.replies ++ r.replies)) (sym lines)
-            (Answers-stopped m h.lines (lines_of behind) (b.replied.replies ++ r.replies) h.fit);
-        written = both_written u r.replies r.written;
-        served = both_served new r.replies r.served;
-      }
-
-  pub broken : (new : Served) (u : Option (List ℕ)) → RepliesUntilFault m held_after mid new (AppendsBeginning v u)
-      → Serves m false (lines_of input) old new (AppendsBeginning w u)
-  broken new u p =
-      let r = p.2 in
-      let j = joined p.0 p.1 r.replies r.handled in
-      let h = j.handled in
-      let behind = j.part ++ j.unread in
-      let lines : lines_of input ≡ h.lines ++ lines_of behind = ap lines_of h.parts ∙ lines_of-ended h.lines behind h.are_lines in
-      record {
-        replies = b.replied.replies ++ r.replies;
-        answers =
-            subst (λ (xs : List (List ℕ)). Answers m false xs (b.replied.replies ++ r.replies)) (sym lines)
-            (Answers-some m p.0 h.lines (lines_of behind) (b.replied.replies ++ r.replies) h.fit);
-        written = partly_written u r.replies r.written;
-        served = both_served new r.replies r.served;
-      }
+    pub broken : RepliesUntilFault m held_after mid new V → Serves m false (lines_of input) old new U
+    broken p =
+        let r = p.2 in
+        let j = joined p.0 p.1 r.replies r.handled in
+        let h = j.handled in
+        let behind = j.part ++ j.unread in
+        let lines : lines_of input ≡ h.lines ++ lines_of behind = ap lines_of h.parts ∙ lines_of-ended h.lines behind h.are_lines in
+        record {
+          replies = b.replied.replies ++ r.replies;
+          answers =
+              subst (λ (xs : List (List ℕ)). Answers m false xs (b.replied.replies ++ r.replies)) (sym lines)
+              (Answers-some m p.0 h.lines (lines_of behind) (b.replied.replies ++ r.replies) h.fit);
+          written = both_written r.replies r.written;
+          served = both_served new r.replies r.served;
+        }
 
   -- the input has come to its end
   module _ (at_end : n ≡ 0) where
@@ -174,22 +173,13 @@ module _ (m : Meaning) (input held held_after : List ℕ) (n : ℕ) (left left_a
         subst (λ (xs : List (List ℕ)). Answers m whole xs (b.replied.replies ++ replies)) (sym all_lines)
         (Answers-append m whole h.lines (last_line_of b.part) b.replied.replies replies h.fit last)
 
-    pub ended : (new : Served) (u : Option (List ℕ)) → Serves m true (last_line_of held_after) mid new (Appends v u)
-        → Serves m true (lines_of input) old new (Appends w u)
-    ended new u p =
+    pub ended : (whole : Bool) (new : Served) (V U : List Reply → Type 0)
+        → ((rs ss : List Reply) → mid ≡ old ++ made_of rs → W rs → V ss → U (rs ++ ss))
+        → Serves m whole (last_line_of held_after) mid new V → Serves m whole (lines_of input) old new U
+    ended whole new V U more p =
         record {
           replies = b.replied.replies ++ p.replies;
-          answers = all_answers true p.replies p.answers;
-          written = both_written u p.replies p.written;
-          served = both_served new p.replies p.served;
-        }
-
-    pub broken_at_end : (new : Served) (u : Option (List ℕ)) → Serves m false (last_line_of held_after) mid new (AppendsBeginning v u)
-        → Serves m false (lines_of input) old new (AppendsBeginning w u)
-    broken_at_end new u p =
-        record {
-          replies = b.replied.replies ++ p.replies;
-          answers = all_answers false p.replies p.answers;
-          written = partly_written u p.replies p.written;
+          answers = all_answers whole p.replies p.answers;
+          written = both_written new V U more p.replies p.written;
           served = both_served new p.replies p.served;
         }

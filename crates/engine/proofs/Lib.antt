@@ -5,5 +5,7 @@ mod Handling
 mod Long
 mod Buffers
 mod Replying
+mod Telling
 mod Between
 mod Unknown
+pub mod Facts

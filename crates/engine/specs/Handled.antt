@@ -4,7 +4,7 @@ use Rattle.engine.specs.declared.lines.Progress.{Progress}
 use Rattle.engine.specs.declared.lines.Progress.TheVariants.{Replied, Stopped}
 use Rattle.engine.specs.declared.reply.Reply.{Reply}
 use Rattle.engine.specs.Lines.{HasNoNewline, HaveNoNewline, ended_lines}
-use Rattle.engine.specs.Replies.{Meaning, Served, Fits, is_stop, output_of, made_of}
+use Rattle.engine.specs.Replies.{Meaning, Served, Fits, is_stop, made_of}
 
 -- One reply to each line. Where it stopped the last one accepts a stop, and no other does.
 abbrev pub Matches : Meaning → Bool → List (List ℕ) → List Reply → Type 0
@@ -23,24 +23,24 @@ pub record Handled (meaning : Meaning) (stopped : Bool) (bytes rest : List ℕ) 
   pub parts : bytes ≡ ended_lines lines ++ rest
   pub fit : Matches meaning stopped lines replies
 
--- The whole lines before the rest have their replies, of whose text this is written, and the desk's list has the
--- requests with their answers.
+-- The whole lines before the rest have their replies, which are written so, and the desk's list has the requests with
+-- their answers.
 pub record RepliesTo (meaning : Meaning) (stopped : Bool) (bytes rest : List ℕ) (old new : Served)
-    (IsWritten : List ℕ → Type 0) : Type 0 where
+    (AreWritten : List Reply → Type 0) : Type 0 where
   pub replies : List Reply
   pub handled : Handled meaning stopped bytes rest replies
-  pub written : IsWritten (output_of replies)
+  pub written : AreWritten replies
   pub served : new ≡ old ++ made_of replies
 
 -- as far as these bytes go
-abbrev pub RepliesAsFar : Meaning → Progress → List ℕ → Served → Served → (List ℕ → Type 0) → Type 0
-RepliesAsFar meaning (Replied used) bytes old new IsWritten =
+abbrev pub RepliesAsFar : Meaning → Progress → List ℕ → Served → Served → (List Reply → Type 0) → Type 0
+RepliesAsFar meaning (Replied used) bytes old new AreWritten =
     (used ≤ length bytes) × HasNoNewline (drop used bytes)
-    × RepliesTo meaning false bytes (drop used bytes) old new IsWritten
-RepliesAsFar meaning Stopped bytes old new IsWritten =
-    (rest : List ℕ) × RepliesTo meaning true bytes rest old new IsWritten
+    × RepliesTo meaning false bytes (drop used bytes) old new AreWritten
+RepliesAsFar meaning Stopped bytes old new AreWritten =
+    (rest : List ℕ) × RepliesTo meaning true bytes rest old new AreWritten
 
 -- as far as the writer went
-abbrev pub RepliesUntilFault : Meaning → List ℕ → Served → Served → (List ℕ → Type 0) → Type 0
-RepliesUntilFault meaning bytes old new IsWritten =
-    (stopped : Bool) × (rest : List ℕ) × RepliesTo meaning stopped bytes rest old new IsWritten
+abbrev pub RepliesUntilFault : Meaning → List ℕ → Served → Served → (List Reply → Type 0) → Type 0
+RepliesUntilFault meaning bytes old new AreWritten =
+    (stopped : Bool) × (rest : List ℕ) × RepliesTo meaning stopped bytes rest old new AreWritten

@@ -2,6 +2,7 @@
 #![tactic(auto)]
 
 mod desk;
+mod failure;
 mod filling;
 mod input;
 mod limits;
@@ -12,6 +13,7 @@ mod reply;
 mod serving;
 
 pub use desk::Desk;
+pub use failure::Failure;
 pub use limits::MAX_LINE;
 pub use reading::Reading;
 pub use reply::Reply;

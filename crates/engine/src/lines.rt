@@ -1,19 +1,19 @@
 //! Lines that came together, and their replies, which go together.
 
-ghost use Rattle.std.specs.Prelude.{◌≡◌, ◌<◌, ◌+◌, ◌++◌, [], true, false, IfOk, OnOk, OnErr};
-ghost use Rattle.std.specs.Io.KnownBytes.{Appends};
-ghost use Rattle.devices.specs.Devices.{failures_of, AppendsBeginning, IsFlushed};
+ghost use Rattle.std.specs.Prelude.{◌≡◌, ◌<◌, ◌+◌, [], true, false, IfOk, OnOk, OnErr};
+ghost use Rattle.devices.specs.Devices.{IsFlushed};
 ghost use Rattle.engine.specs.Lines.{last_line_of};
-ghost use Rattle.engine.specs.Output.{Moves};
+ghost use Rattle.engine.specs.Output.{write_failures_of, settle_failures_of, AreHeld};
 ghost use Rattle.engine.specs.Handled.{RepliesAsFar, RepliesUntilFault};
 ghost use Rattle.engine.specs.Serving.{Serves};
+ghost use Rattle.engine.specs.Settled.{AreTold, SomeAreTold};
 
 use crate::desk::Desk;
 use crate::filling::newline_in;
-use crate::output::{Output, put};
+use crate::output::{Output, Unsent, put, send_settled};
 use crate::reading::Reading;
 use crate::reply::reply_to;
-use devices::{Failed, MAX_FAILURES, Writer, send};
+use devices::{MAX_FAILURES, Writer};
 use std::alloc::Global;
 use std::sync::Wait;
 
@@ -34,22 +34,27 @@ fn put_replies<T: Wait, P: Reading, W: Writer, D: Desk>(
     desk: &mut D,
     output: &mut Output,
     bytes: &[u8],
-) -> Result<Progress, Failed>
-    requires { W.failures writer.old < MAX_FAILURES }
+) -> Result<Progress, Unsent>
+    requires writer { W.failures writer.old < MAX_FAILURES }
+    requires desk { D.failures desk.old < MAX_FAILURES }
+    requires empty { output.old.items ≡ [] }
     ensures put { IfOk result (λ progress.
         RepliesAsFar P.meaning progress bytes.now (D.served desk.old) (D.served desk.new)
-        (Moves (W.written writer.old) (W.written writer.new) output.old.items output.new.items)) }
+        (AreHeld (D.served desk.old) (D.settled desk.old) (D.settled desk.new)
+        (W.written writer.old) (W.written writer.new) output.new.items)) }
     ensures fault { OnErr result
         (RepliesUntilFault P.meaning bytes.now (D.served desk.old) (D.served desk.new)
-        (λ text. AppendsBeginning (W.written writer.old) (W.written writer.new) (output.old.items ++ text))) }
-    ensures failures { W.failures writer.new ≡ W.failures writer.old + failures_of result }
+        (SomeAreTold (D.served desk.old) (D.settled desk.old) (D.settled desk.new)
+        (W.written writer.old) (W.written writer.new))) }
+    ensures write_failures { W.failures writer.new ≡ W.failures writer.old + write_failures_of result }
+    ensures settle_failures { D.failures desk.new ≡ D.failures desk.old + settle_failures_of result }
 {
     let mut rest = bytes;
     while let Some(n) = newline_in(rest) {
         let (line, _) = rest.split_at(n);
         let (_, after) = rest.split_at(n + 1);
         let reply = reply_to::<T, P, D>(rt, alloc, desk, line);
-        put(writer, output, &reply)?;
+        put(rt, writer, desk, output, &reply)?;
         if reply.is_stop() {
             return Ok(Progress::Stopped);
         }
@@ -58,7 +63,7 @@ fn put_replies<T: Wait, P: Reading, W: Writer, D: Desk>(
     Ok(Progress::Replied(bytes.len() - rest.len()))
 }
 
-/// Replies to each line, up to and with the first accepted stop, and writes the replies.
+/// Replies to each line, up to and with the first accepted stop, and sends the replies.
 pub fn reply_lines<T: Wait, P: Reading, W: Writer, D: Desk>(
     rt: &T,
     alloc: Global,
@@ -66,26 +71,30 @@ pub fn reply_lines<T: Wait, P: Reading, W: Writer, D: Desk>(
     desk: &mut D,
     output: &mut Output,
     bytes: &[u8],
-) -> Result<Progress, Failed>
-    requires failures { W.failures writer.old < MAX_FAILURES }
+) -> Result<Progress, Unsent>
+    requires writer { W.failures writer.old < MAX_FAILURES }
+    requires desk { D.failures desk.old < MAX_FAILURES }
     requires empty { output.old.items ≡ [] }
-    ensures written { IfOk result (λ progress.
+    ensures told { IfOk result (λ progress.
         RepliesAsFar P.meaning progress bytes.now (D.served desk.old) (D.served desk.new)
-        (Appends (W.written writer.old) (W.written writer.new))) }
+        (AreTold (D.served desk.old) (D.settled desk.old) (D.settled desk.new)
+        (W.written writer.old) (W.written writer.new))) }
     ensures flushed { OnOk result (IsFlushed (W.written writer.new) (W.flushed writer.new)) }
     ensures empty { OnOk result (output.new.items ≡ []) }
     ensures fault { OnErr result
         (RepliesUntilFault P.meaning bytes.now (D.served desk.old) (D.served desk.new)
-        (AppendsBeginning (W.written writer.old) (W.written writer.new))) }
-    ensures failures { W.failures writer.new ≡ W.failures writer.old + failures_of result }
+        (SomeAreTold (D.served desk.old) (D.settled desk.old) (D.settled desk.new)
+        (W.written writer.old) (W.written writer.new))) }
+    ensures write_failures { W.failures writer.new ≡ W.failures writer.old + write_failures_of result }
+    ensures settle_failures { D.failures desk.new ≡ D.failures desk.old + settle_failures_of result }
 {
     let progress = put_replies::<T, P, W, D>(rt, alloc, writer, desk, output, bytes)?;
-    send(writer, output.as_slice())?;
+    send_settled(rt, writer, desk, output)?;
     output.clear();
     Ok(progress)
 }
 
-/// Replies to the last line, which has no newline, if there are bytes of it.
+/// Replies to the last line, which has no newline, if there are bytes of it, and sends the reply.
 pub fn reply_last_line<T: Wait, P: Reading, W: Writer, D: Desk>(
     rt: &T,
     alloc: Global,
@@ -93,22 +102,26 @@ pub fn reply_last_line<T: Wait, P: Reading, W: Writer, D: Desk>(
     desk: &mut D,
     output: &mut Output,
     bytes: &[u8],
-) -> Result<(), Failed>
-    requires failures { W.failures writer.old < MAX_FAILURES }
+) -> Result<(), Unsent>
+    requires writer { W.failures writer.old < MAX_FAILURES }
+    requires desk { D.failures desk.old < MAX_FAILURES }
     requires empty { output.old.items ≡ [] }
-    ensures written { OnOk result
+    ensures told { OnOk result
         (Serves P.meaning true (last_line_of bytes.now) (D.served desk.old) (D.served desk.new)
-        (Appends (W.written writer.old) (W.written writer.new))) }
+        (AreTold (D.served desk.old) (D.settled desk.old) (D.settled desk.new)
+        (W.written writer.old) (W.written writer.new))) }
     ensures flushed { OnOk result (IsFlushed (W.written writer.new) (W.flushed writer.new)) }
     ensures fault { OnErr result
         (Serves P.meaning false (last_line_of bytes.now) (D.served desk.old) (D.served desk.new)
-        (AppendsBeginning (W.written writer.old) (W.written writer.new))) }
-    ensures failures { W.failures writer.new ≡ W.failures writer.old + failures_of result }
+        (SomeAreTold (D.served desk.old) (D.settled desk.old) (D.settled desk.new)
+        (W.written writer.old) (W.written writer.new))) }
+    ensures write_failures { W.failures writer.new ≡ W.failures writer.old + write_failures_of result }
+    ensures settle_failures { D.failures desk.new ≡ D.failures desk.old + settle_failures_of result }
 {
     if bytes.is_empty() {
-        return writer.flush();
+        return send_settled(rt, writer, desk, output);
     }
     let reply = reply_to::<T, P, D>(rt, alloc, desk, bytes);
-    put(writer, output, &reply)?;
-    send(writer, output.as_slice())
+    put(rt, writer, desk, output, &reply)?;
+    send_settled(rt, writer, desk, output)
 }

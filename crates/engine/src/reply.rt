@@ -38,6 +38,8 @@ pub fn reply_to<T: Wait, P: Reading, D: Desk>(
 ) -> Reply
     ensures fits { Fits P.meaning line.now result }
     ensures served { D.served desk.new ≡ D.served desk.old ++ made_of (result ∷ []) }
+    ensures settled { D.settled desk.new ≡ D.settled desk.old }
+    ensures failures { D.failures desk.new ≡ D.failures desk.old }
 {
     if line.len() > MAX_LINE {
         return Reply::Fault(Refusal::TooLong);

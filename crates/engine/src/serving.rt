@@ -1,12 +1,13 @@
 //! Serving a reader and a writer.
 
-ghost use Rattle.std.specs.Prelude.{◌≡◌, ◌<◌, ◌↔◌, ◌⊎◌, true, false, OnOk, IfErr, IsErrOf};
-ghost use Rattle.std.specs.Io.KnownBytes.{Appends};
-ghost use Rattle.devices.specs.Devices.{AppendsBeginning, IsFlushed};
+ghost use Rattle.std.specs.Prelude.{◌≡◌, ◌<◌, ◌↔◌, true, false, OnOk, IsErrOf};
+ghost use Rattle.devices.specs.Devices.{IsFlushed};
 ghost use Rattle.engine.specs.Lines.{lines_of};
 ghost use Rattle.engine.specs.Serving.{HasInput, Serves, ServesWhatWasRead};
+ghost use Rattle.engine.specs.Settled.{AreTold, SomeAreTold};
 
 use crate::desk::Desk;
+use crate::failure::Failure;
 use crate::input::Input;
 use crate::lines::{Progress, reply_last_line, reply_lines};
 use crate::output::Output;
@@ -14,66 +15,55 @@ use crate::reading::Reading;
 use devices::{MAX_FAILURES, Reader, Writer};
 use std::alloc::Global;
 use std::sync::Wait;
-use words::Refusal;
 
 /// Replies to each line of the input, up to and with the first accepted stop. No read waits while a reply is not
-/// written.
+/// written, and before replies are written all that was served is settled. Where a device fails, or the desk cannot
+/// settle, it ends, and nothing more is read or written.
 pub fn serve<T: Wait, P: Reading, R: Reader, W: Writer, D: Desk>(
     rt: &T,
     alloc: Global,
     reader: &mut R,
     writer: &mut W,
     desk: &mut D,
-) -> Result<(), Refusal>
+) -> Result<(), Failure>
     requires reader { R.failures reader.old < MAX_FAILURES }
     requires writer { W.failures writer.old < MAX_FAILURES }
-    // The text of one reply for each line of the input was written, and nothing else.
+    requires desk { D.failures desk.old < MAX_FAILURES }
+    // The text of one reply for each line of the input was written, and nothing else. All that was served is settled.
     ensures served { OnOk result (HasInput (R.left reader.old) (λ input.
         Serves P.meaning true (lines_of input) (D.served desk.old) (D.served desk.new)
-        (Appends (W.written writer.old) (W.written writer.new)))) }
+        (AreTold (D.served desk.old) (D.settled desk.old) (D.settled desk.new)
+        (W.written writer.old) (W.written writer.new)))) }
     ensures flushed { OnOk result (IsFlushed (W.written writer.new) (W.flushed writer.new)) }
     // The same for the whole lines of what was read.
-    ensures read_failed { IsErrOf result Refusal.ReadFailed → HasInput (R.left reader.old) (λ input.
+    ensures read_failed { IsErrOf result Failure.ReadFailed → HasInput (R.left reader.old) (λ input.
         ServesWhatWasRead P.meaning input (R.left reader.new) (D.served desk.old) (D.served desk.new)
-        (Appends (W.written writer.old) (W.written writer.new))) }
-    // A beginning of it was written.
-    ensures write_failed { IsErrOf result Refusal.WriteFailed → HasInput (R.left reader.old) (λ input.
+        (AreTold (D.served desk.old) (D.settled desk.old) (D.settled desk.new)
+        (W.written writer.old) (W.written writer.new))) }
+    // A beginning of it was written: of the replies to the first requests, which are settled.
+    ensures write_failed { IsErrOf result Failure.WriteFailed → HasInput (R.left reader.old) (λ input.
         Serves P.meaning false (lines_of input) (D.served desk.old) (D.served desk.new)
-        (AppendsBeginning (W.written writer.old) (W.written writer.new))) }
-    ensures read_fault { IsErrOf result Refusal.ReadFailed ↔ (R.failures reader.old < R.failures reader.new) }
-    ensures write_fault { IsErrOf result Refusal.WriteFailed ↔ (W.failures writer.old < W.failures writer.new) }
-    ensures others { IfErr result (λ e. (e ≡ Refusal.ReadFailed) ⊎ (e ≡ Refusal.WriteFailed)) }
+        (SomeAreTold (D.served desk.old) (D.settled desk.old) (D.settled desk.new)
+        (W.written writer.old) (W.written writer.new))) }
+    ensures not_kept { IsErrOf result Failure.NotKept → HasInput (R.left reader.old) (λ input.
+        Serves P.meaning false (lines_of input) (D.served desk.old) (D.served desk.new)
+        (SomeAreTold (D.served desk.old) (D.settled desk.old) (D.settled desk.new)
+        (W.written writer.old) (W.written writer.new))) }
+    ensures read_fault { IsErrOf result Failure.ReadFailed ↔ (R.failures reader.old < R.failures reader.new) }
+    ensures write_fault { IsErrOf result Failure.WriteFailed ↔ (W.failures writer.old < W.failures writer.new) }
+    ensures settle_fault { IsErrOf result Failure.NotKept ↔ (D.failures desk.old < D.failures desk.new) }
 {
     let mut input = Input::new();
     let mut output = Output::new();
     for _ in rt.forever() {
         let Ok(n) = input.fill(reader) else {
-            return Err(Refusal::ReadFailed);
+            return Err(Failure::ReadFailed);
         };
         if n == 0 {
-            let Ok(()) = reply_last_line::<T, P, W, D>(
-                rt,
-                alloc,
-                writer,
-                desk,
-                &mut output,
-                input.held(),
-            ) else {
-                return Err(Refusal::WriteFailed);
-            };
+            reply_last_line::<T, P, W, D>(rt, alloc, writer, desk, &mut output, input.held())?;
             return Ok(());
         }
-        let Ok(progress) = reply_lines::<T, P, W, D>(
-            rt,
-            alloc,
-            writer,
-            desk,
-            &mut output,
-            input.held(),
-        ) else {
-            return Err(Refusal::WriteFailed);
-        };
-        match progress {
+        match reply_lines::<T, P, W, D>(rt, alloc, writer, desk, &mut output, input.held())? {
             Progress::Stopped => return Ok(()),
             Progress::Replied(used) => input.keep_from(used),
         }

@@ -1,5 +1,5 @@
 -- What a crash at each point of a script comes to.
-use Rattle.std.specs.Prelude.{ℕ, zero, suc, ◌+◌, ◌%◌, ◌==◌, Bool, true, false, List, [], ◌∷◌, Option, Some, None, length, map, take, drop, replicate, if◌then◌else◌}
+use Rattle.std.specs.Prelude.{ℕ, zero, suc, ◌+◌, ◌-◌, ◌%◌, ◌==◌, Bool, true, false, List, [], ◌∷◌, Option, Some, None, length, map, take, drop, replicate, if◌then◌else◌}
 use Rattle.std.specs.List.{range_with_len}
 use Rattle.rand_pcg.specs.Lcg.{Lcg, started, increment_of}
 use Rattle.rand_pcg.specs.Pcg.{pcg32, multiplier_64}
@@ -85,6 +85,10 @@ found_after s acts evictions point = found_by_recovery (crashed_world s acts evi
 -- that of a crash after the first of these acts, so many of them
 abbrev pub found_at : Shape → List (Act ℕ) → Evictions → ℕ → Found
 found_at s acts evictions point = found_after s (take point acts) evictions point
+
+-- those of crashes after the first acts, from so many of them on, up to another number
+abbrev pub found_between : Shape → List (Act ℕ) → Evictions → ℕ → ℕ → List Found
+found_between s acts evictions from to = map (found_at s acts evictions) (range_with_len from (to - from))
 
 -- and that of a crash at a point of a script
 abbrev pub point_of : Shape → List Command → Evictions → ℕ → Found

@@ -53,9 +53,13 @@ report_text clients number points bad =
     numbered_text clients number points
     ++ (codes "points " ++ decimal (length points) ++ codes " bad " ++ decimal bad ++ codes "\n")
 
--- the lines of a part of the points, which have the numbers that they have in the whole
+-- the lines of a part of the points, which have the numbers that they have in the whole: of those from one on, so many
+-- of them, or all
 abbrev pub lines_of_part : ℕ → Part → List Found → List ℕ
 lines_of_part clients part points = numbered_text clients part.from (part_of part points)
+
+abbrev pub lines_from : ℕ → ℕ → Option ℕ → List Found → List ℕ
+lines_from clients from count points = lines_of_part clients (record { from = from; count = count }) points
 
 -- the report on a part of a script's points
 abbrev pub points_text : Wanted → Option QueueLine → List Command → List ℕ

@@ -2,8 +2,8 @@
 
 ghost use Rattle.std.specs.Prelude.{◌≡◌, ◌+◌, ◌-◌, ◌*◌, ◌<◌, ◌≤◌, ◌++◌, min, OnOk, IfOk, IfErr, length, map, not, count_by};
 ghost use Rattle.std.specs.List.{flat_map, range_with_len};
-ghost use Rattle.explore.specs.Pieces.{piece_range};
-ghost use Rattle.explore.specs.Points.{found_of, found_at, part_of, points_of};
+ghost use Rattle.explore.specs.Pieces.{found_of_schedule, piece_range};
+ghost use Rattle.explore.specs.Points.{found_of, part_of, points_of};
 
 use crate::evictions::Evictions;
 use crate::part::{WHOLE, Wanted};
@@ -69,8 +69,8 @@ fn piece_points(
 ) -> Result<Vec<Point>, Refusal>
     requires some { from + piece * PIECE < to }
     requires within { to ≤ length schedule.now.acts.items + 1 }
-    ensures points { IfOk result (λ points. map found_of points.items
-        ≡ map (found_at schedule.now.layout schedule.now.acts.items schedule.now.evictions) (piece_range from to piece)) }
+    ensures points { IfOk result
+        (λ points. map found_of points.items ≡ found_of_schedule schedule.now (piece_range from to piece)) }
     ensures errors { IfErr result (λ e. e ≡ Refusal.NoMemory) }
 {
     let first = from + piece * PIECE;
@@ -104,9 +104,8 @@ fn some_points<R: Threads + Sync>(
 ) -> Result<Vec<Point>, Refusal>
     requires ordered { from ≤ to }
     requires within { to ≤ length schedule.now.acts.items + 1 }
-    ensures points { IfOk result (λ points. map found_of points.items
-        ≡ map (found_at schedule.now.layout schedule.now.acts.items schedule.now.evictions)
-        (range_with_len from (to - from))) }
+    ensures points { IfOk result
+        (λ points. map found_of points.items ≡ found_of_schedule schedule.now (range_with_len from (to - from))) }
     ensures errors { IfErr result (λ e. e ≡ Refusal.NoMemory) }
 {
     let pieces = (to - from).div_ceil(PIECE);
@@ -117,9 +116,8 @@ fn some_points<R: Threads + Sync>(
         .map(
             |piece: usize| -> Result<Vec<Point>, Refusal>
                 requires { (from + piece * PIECE < to) × (to ≤ length schedule.now.acts.items + 1) }
-                ensures points { IfOk result (λ points. map found_of points.items
-                    ≡ map (found_at schedule.entry.now.layout schedule.entry.now.acts.items schedule.entry.now.evictions)
-                    (piece_range from to piece)) }
+                ensures points { IfOk result
+                    (λ points. map found_of points.items ≡ found_of_schedule schedule.entry.now (piece_range from to piece)) }
                 ensures errors { IfErr result (λ e. e ≡ Refusal.NoMemory) }
             { piece_points(alloc, schedule, from, to, piece) },
         )
@@ -150,9 +148,8 @@ fn all_points<R: Threads + Sync, W: Watch>(
 ) -> Result<Vec<Point>, Refusal>
     requires ordered { from ≤ to }
     requires within { to ≤ length schedule.now.acts.items + 1 }
-    ensures points { IfOk result (λ points. map found_of points.items
-        ≡ map (found_at schedule.now.layout schedule.now.acts.items schedule.now.evictions)
-        (range_with_len from (to - from))) }
+    ensures points { IfOk result
+        (λ points. map found_of points.items ≡ found_of_schedule schedule.now (range_with_len from (to - from))) }
     ensures errors { IfErr result (λ e. e ≡ Refusal.NoMemory) }
 {
     let count = to - from;

@@ -1,10 +1,9 @@
 //! Points that one worker makes, one after another.
 
 ghost use Rattle.std.specs.Prelude.{◌≡◌, ◌<◌, ◌≤◌, ◌+◌, ◌-◌, ◌++◌, ◌∷◌, [], OnOk, IfOk, IfErr, length, map, take};
-ghost use Rattle.std.specs.List.{range_with_len};
 ghost use Rattle.interleave.specs.Holds.{Holds};
 ghost use Rattle.interleave.specs.State.{State, after_acts};
-ghost use Rattle.explore.specs.Points.{found_of, found_at, found_stopped};
+ghost use Rattle.explore.specs.Points.{found_between, found_of, found_stopped};
 
 use crate::evictions::Evictions;
 use crate::point::{Point, crash};
@@ -69,8 +68,8 @@ pub(crate) fn stopped_points(
 ) -> Result<Vec<Point>, Refusal>
     requires ordered { from < to }
     requires within { to ≤ length acts.now + 1 }
-    ensures points { IfOk result (λ points. map found_of points.items
-        ≡ map (found_at layout acts.now Evictions.None) (range_with_len from (to - from))) }
+    ensures points { IfOk result
+        (λ points. map found_of points.items ≡ found_between layout acts.now Evictions.None from to) }
     ensures errors { IfErr result (λ e. e ≡ Refusal.NoMemory) }
 {
     let mut world = World::make(alloc, layout)?;
@@ -107,8 +106,8 @@ pub(crate) fn evicted_points(
 ) -> Result<Vec<Point>, Refusal>
     requires ordered { from < to }
     requires within { to ≤ length acts.now + 1 }
-    ensures points { IfOk result (λ points. map found_of points.items
-        ≡ map (found_at layout acts.now evictions) (range_with_len from (to - from))) }
+    ensures points { IfOk result
+        (λ points. map found_of points.items ≡ found_between layout acts.now evictions from to) }
     ensures errors { IfErr result (λ e. e ≡ Refusal.NoMemory) }
 {
     let mut spare = Spare::none();

@@ -1,4 +1,5 @@
 pub mod Lines
+pub mod Reading
 pub mod Limits
 pub mod Grammar
 pub mod Rows

@@ -1,5 +1,7 @@
 -- What a text says as a script, and which of its lines is the first bad one.
-use Rattle.std.specs.Prelude.{◌≡◌, ◌≤◌, ◌<◌, ℕ, ◌-◌, List, [], ◌∷◌, ◌++◌, Option, Some, None, true, IfSome, length, map, take, filter, All}
+use Rattle.std.specs.Prelude.{◌≡◌, ◌⊎◌, ◌≤◌, ◌<◌, ℕ, ◌-◌, List, [], ◌∷◌, ◌++◌, Option, Some, None, true, IfSome, length, map, take, filter, All}
+use Rattle.words.specs.declared.refusal.Refusal.{Refusal}
+use Rattle.words.specs.declared.refusal.Refusal.TheVariants.{BadLine, NoMemory}
 use Rattle.grammar.specs.Lines.{words_of, is_statement}
 use Rattle.grammar.specs.Grammar.{queue_words, command_words, IsServedQueue, IsServed, is_on}
 use Rattle.grammar.specs.declared.limits.TheConstants.{MAX_LINES}
@@ -27,6 +29,11 @@ pub record IsFirstBad (lines : List (List ℕ)) (number : ℕ) : Type 0 where
   pub there : number ≤ length lines
   pub good : (queue : Option QueueLine) × (commands : List Command) × Says (take (number - 1) lines) queue commands
   pub bad : (queue : Option QueueLine) (commands : List Command) → Says (take number lines) queue commands → ⊥
+
+-- why lines are not read as a script: there was no memory, or this is the first bad one
+abbrev pub IsWhyUnread : List (List ℕ) → Refusal → Type 0
+IsWhyUnread lines refusal =
+    (refusal ≡ NoMemory) ⊎ ((number : ℕ) × (refusal ≡ BadLine number) × IsFirstBad lines number)
 
 -- whatever lines said the script so far, they say the new one with this line
 abbrev pub Continues : Option QueueLine → List Command → List ℕ → Option QueueLine → List Command → Type 0

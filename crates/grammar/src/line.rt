@@ -5,6 +5,7 @@ ghost use Rattle.words.specs.PlainQueue.{Value, FitsValue};
 ghost use Rattle.words.specs.Text.{value_text};
 ghost use Rattle.grammar.specs.Lines.{words_of, HasPlainStart};
 ghost use Rattle.grammar.specs.Limits.{IsWithin};
+ghost use Rattle.grammar.specs.Reading.{Reads, Reads₂, Reads₃};
 
 use crate::limits::Limits;
 use std::str;
@@ -38,8 +39,7 @@ fn number(word: &[u8]) -> Option<u64>
 
 /// A number within limits.
 fn number_within(word: &[u8], limits: Limits) -> Option<u64>
-    ensures { MatchOption result ((n : ℕ) → IsWithin limits n → word.now ≢ decimal n)
-        (λ n. (word.now ≡ decimal n) × IsWithin limits n) }
+    ensures { Reads decimal (IsWithin limits) word.now result }
 {
     let n = number(word)?;
     if n < limits.least || n > limits.most {
@@ -50,8 +50,7 @@ fn number_within(word: &[u8], limits: Limits) -> Option<u64>
 
 /// The value that a word is: two lowercase hexadecimal digits for each of its bytes, or `.` where it has none.
 fn value(word: &[u8]) -> Option<Value>
-    ensures { MatchOption result ((value : Value) → FitsValue value → word.now ≢ value_text value)
-        (λ value. (word.now ≡ value_text value) × FitsValue value) }
+    ensures { Reads value_text FitsValue word.now result }
 {
     if word.is_empty() {
         return None;
@@ -101,8 +100,7 @@ pub fn is_name(line: &[u8], name: &[u8]) -> bool
 
 /// The number that is all of a text.
 pub fn one_number(text: &[u8], limits: Limits) -> Option<u64>
-    ensures { MatchOption result ((n : ℕ) → IsWithin limits n → words_of text.now ≢ decimal n ∷ [])
-        (λ n. (words_of text.now ≡ decimal n ∷ []) × IsWithin limits n) }
+    ensures { Reads (λ n. decimal n ∷ []) (IsWithin limits) (words_of text.now) result }
 {
     let (word, rest) = first_word(text);
     if rest.is_some() {
@@ -113,8 +111,7 @@ pub fn one_number(text: &[u8], limits: Limits) -> Option<u64>
 
 /// The value that is all of a text.
 pub fn one_value(text: &[u8]) -> Option<Value>
-    ensures { MatchOption result ((value : Value) → FitsValue value → words_of text.now ≢ value_text value ∷ [])
-        (λ value. (words_of text.now ≡ value_text value ∷ []) × FitsValue value) }
+    ensures { Reads (λ value. value_text value ∷ []) FitsValue (words_of text.now) result }
 {
     let (word, rest) = first_word(text);
     if rest.is_some() {
@@ -125,10 +122,8 @@ pub fn one_value(text: &[u8]) -> Option<Value>
 
 /// The number and the value that are all of a text.
 pub fn number_and_value(text: &[u8], limits: Limits) -> Option<(u64, Value)>
-    ensures { MatchOption result
-        ((n : ℕ) (value : Value) → IsWithin limits n → FitsValue value
-        → words_of text.now ≢ decimal n ∷ value_text value ∷ [])
-        (λ r. (words_of text.now ≡ decimal r.0 ∷ value_text r.1 ∷ []) × IsWithin limits r.0 × FitsValue r.1) }
+    ensures { Reads₂ (λ n v. decimal n ∷ value_text v ∷ []) (IsWithin limits) FitsValue
+        (words_of text.now) result }
 {
     let (word, rest) = first_word(text);
     let n = number_within(word, limits)?;
@@ -138,9 +133,8 @@ pub fn number_and_value(text: &[u8], limits: Limits) -> Option<(u64, Value)>
 
 /// The two numbers that are all of a text.
 pub fn two_numbers(text: &[u8], first: Limits, second: Limits) -> Option<(u64, u64)>
-    ensures { MatchOption result
-        ((m n : ℕ) → IsWithin first m → IsWithin second n → words_of text.now ≢ decimal m ∷ decimal n ∷ [])
-        (λ r. (words_of text.now ≡ decimal r.0 ∷ decimal r.1 ∷ []) × IsWithin first r.0 × IsWithin second r.1) }
+    ensures { Reads₂ (λ m n. decimal m ∷ decimal n ∷ []) (IsWithin first) (IsWithin second)
+        (words_of text.now) result }
 {
     let (word, rest) = first_word(text);
     let m = number_within(word, first)?;
@@ -150,11 +144,8 @@ pub fn two_numbers(text: &[u8], first: Limits, second: Limits) -> Option<(u64, u
 
 /// The two numbers and the value that are all of a text.
 pub fn numbers_and_value(text: &[u8], first: Limits, second: Limits) -> Option<(u64, u64, Value)>
-    ensures { MatchOption result
-        ((m n : ℕ) (value : Value) → IsWithin first m → IsWithin second n → FitsValue value
-        → words_of text.now ≢ decimal m ∷ decimal n ∷ value_text value ∷ [])
-        (λ r. (words_of text.now ≡ decimal r.0 ∷ decimal r.1 ∷ value_text r.2 ∷ [])
-        × IsWithin first r.0 × IsWithin second r.1 × FitsValue r.2) }
+    ensures { Reads₃ (λ m n v. decimal m ∷ decimal n ∷ value_text v ∷ [])
+        (IsWithin first) (IsWithin second) FitsValue (words_of text.now) result }
 {
     let (word, rest) = first_word(text);
     let m = number_within(word, first)?;

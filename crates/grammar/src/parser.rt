@@ -1,10 +1,10 @@
 //! A script read from its text.
 
-ghost use Rattle.std.specs.Prelude.{MatchOption, ◌≡◌, ◌⊎◌, ◌<◌, ℕ, List, ◌∷◌, [], ◌++◌, Option, None, Some, Ok, IfOk, IfErr, IfNone, length, true, false};
+ghost use Rattle.std.specs.Prelude.{MatchOption, ◌≡◌, Ok, IfOk, IfErr, Option, None, Some, true, false};
 ghost use Rattle.grammar.specs.Lines.{lines_of};
 ghost use Rattle.grammar.specs.Grammar.{SaysCommand, is_on};
 ghost use Rattle.grammar.specs.declared.commands.Command.{Command};
-ghost use Rattle.grammar.specs.Script.{Says, IsFirstBad, Continues, EndsBadly};
+ghost use Rattle.grammar.specs.Script.{Says, IsWhyUnread, Continues, EndsBadly};
 
 use crate::commands::{Command, QueueLine};
 use crate::limits::MAX_LINES;
@@ -58,8 +58,7 @@ fn add_line(
 /// the grammar, or is past the [`MAX_LINES`]th: BadLine, with the number of the first such line.
 pub fn parse_script(alloc: Global, text: &[u8]) -> Result<Script, Refusal>
     ensures script { IfOk result (λ script. Says (lines_of text.now) script.queue script.commands) }
-    ensures errors { IfErr result (λ e. (e ≡ Refusal.NoMemory)
-        ⊎ ((number : ℕ) × (e ≡ Refusal.BadLine number) × IsFirstBad (lines_of text.now) number)) }
+    ensures errors { IfErr result (IsWhyUnread (lines_of text.now)) }
 {
     let mut queue = None;
     let mut commands = Vec::new(alloc);

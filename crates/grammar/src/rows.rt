@@ -1,11 +1,11 @@
 //! The lines that are served, a row for each. They are tried in turn: a line has the words of one row at most.
 
 ghost use Rattle.std.specs.Prelude.{◌≡◌, ℕ, List, [], ◌∷◌, MatchOption};
-ghost use Rattle.words.specs.PlainQueue.{Value};
 ghost use Rattle.words.specs.declared.call.Client.{Client};
 ghost use Rattle.words.specs.declared.call.Kind.{Kind};
 ghost use Rattle.grammar.specs.Lines.{words_of};
 ghost use Rattle.grammar.specs.Grammar.{SaysQueue, SaysCommand, kind_word, is_on, is_shown};
+ghost use Rattle.grammar.specs.Reading.{SaysNone, SaysNone₂, SaysNone₃};
 ghost use Rattle.grammar.specs.Rows.{IsNoCall, IsNoMemoryLine, IsNoCrashLine};
 ghost use Rattle.grammar.specs.declared.commands.Command.{Command};
 ghost use Rattle.grammar.specs.declared.commands.QueueLine.{QueueLine};
@@ -44,9 +44,7 @@ pub fn queue_line(line: &[u8]) -> Option<QueueLine>
 
 /// `enq C V`
 fn enq(line: &[u8]) -> Option<Command>
-    ensures { MatchOption result
-        ((client : Client) (value : Value) → SaysCommand line.now (Command.Enq client value) → ⊥)
-        (SaysCommand line.now) }
+    ensures { MatchOption result (SaysNone₂ (SaysCommand line.now) Command.Enq) (SaysCommand line.now) }
 {
     let numbers = after_name(line, b"enq")?;
     let (client, value) = number_and_value(numbers, CLIENT)?;
@@ -58,10 +56,7 @@ fn enq(line: &[u8]) -> Option<Command>
 
 /// `enq C N V`
 fn numbered_enq(line: &[u8]) -> Option<Command>
-    ensures { MatchOption result
-        ((client : Client) (number : ℕ) (value : Value)
-        → SaysCommand line.now (Command.NumberedEnq client number value) → ⊥)
-        (SaysCommand line.now) }
+    ensures { MatchOption result (SaysNone₃ (SaysCommand line.now) Command.NumberedEnq) (SaysCommand line.now) }
 {
     let numbers = after_name(line, b"enq")?;
     let (client, number, value) = numbers_and_value(numbers, CLIENT, NUMBER)?;
@@ -74,8 +69,7 @@ fn numbered_enq(line: &[u8]) -> Option<Command>
 
 /// `deq C`
 fn deq(line: &[u8]) -> Option<Command>
-    ensures { MatchOption result ((client : Client) → SaysCommand line.now (Command.Deq client) → ⊥)
-        (SaysCommand line.now) }
+    ensures { MatchOption result (SaysNone (SaysCommand line.now) Command.Deq) (SaysCommand line.now) }
 {
     let numbers = after_name(line, b"deq")?;
     let client = one_number(numbers, CLIENT)?;
@@ -86,9 +80,7 @@ fn deq(line: &[u8]) -> Option<Command>
 
 /// `deq C N`
 fn numbered_deq(line: &[u8]) -> Option<Command>
-    ensures { MatchOption result
-        ((client : Client) (number : ℕ) → SaysCommand line.now (Command.NumberedDeq client number) → ⊥)
-        (SaysCommand line.now) }
+    ensures { MatchOption result (SaysNone₂ (SaysCommand line.now) Command.NumberedDeq) (SaysCommand line.now) }
 {
     let numbers = after_name(line, b"deq")?;
     let (client, number) = two_numbers(numbers, CLIENT, NUMBER)?;
@@ -100,8 +92,7 @@ fn numbered_deq(line: &[u8]) -> Option<Command>
 
 /// `step C M`
 fn step(line: &[u8]) -> Option<Command>
-    ensures { MatchOption result ((client : Client) (most : ℕ) → SaysCommand line.now (Command.Step client most) → ⊥)
-        (SaysCommand line.now) }
+    ensures { MatchOption result (SaysNone₂ (SaysCommand line.now) Command.Step) (SaysCommand line.now) }
 {
     let numbers = after_name(line, b"step")?;
     let (client, most) = two_numbers(numbers, CLIENT, STEPS)?;
@@ -113,8 +104,7 @@ fn step(line: &[u8]) -> Option<Command>
 
 /// `end C`
 fn end(line: &[u8]) -> Option<Command>
-    ensures { MatchOption result ((client : Client) → SaysCommand line.now (Command.End client) → ⊥)
-        (SaysCommand line.now) }
+    ensures { MatchOption result (SaysNone (SaysCommand line.now) Command.End) (SaysCommand line.now) }
 {
     let numbers = after_name(line, b"end")?;
     let client = one_number(numbers, CLIENT)?;
@@ -125,7 +115,7 @@ fn end(line: &[u8]) -> Option<Command>
 
 /// `evict W`
 fn evict(line: &[u8]) -> Option<Command>
-    ensures { MatchOption result ((word : ℕ) → SaysCommand line.now (Command.Evict word) → ⊥) (SaysCommand line.now) }
+    ensures { MatchOption result (SaysNone (SaysCommand line.now) Command.Evict) (SaysCommand line.now) }
 {
     let numbers = after_name(line, b"evict")?;
     let word = one_number(numbers, NUMBER)?;
@@ -156,8 +146,7 @@ fn recover(line: &[u8]) -> Option<Command>
 
 /// `recover M`
 fn recover_by(line: &[u8]) -> Option<Command>
-    ensures { MatchOption result ((most : ℕ) → SaysCommand line.now (Command.RecoverBy most) → ⊥)
-        (SaysCommand line.now) }
+    ensures { MatchOption result (SaysNone (SaysCommand line.now) Command.RecoverBy) (SaysCommand line.now) }
 {
     let numbers = after_name(line, b"recover")?;
     let most = one_number(numbers, STEPS)?;

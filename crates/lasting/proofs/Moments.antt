@@ -1,24 +1,28 @@
 -- Batches that each end at a moment, and the later of two moments goes on from the earlier.
-use Rattle.std.proofs.Common.{◌≡◌, ◌≢◌, ◌≤◌, ◌⊎◌, inl, inr, ◌++◌, ◌∷◌, [], ℕ, ◌+◌, Bool, false, eqb, if◌then◌else◌, List, length-append, true≢false, Result, Ok, Err, Some, length, take, refl, sym, ap, ◌∙◌, subst, append-nil, arith}
+use Rattle.std.proofs.Common.{◌≡◌, ◌≢◌, ◌≤◌, ◌⊎◌, inl, inr, ◌++◌, ◌∷◌, [], ℕ, ◌+◌, Bool, true, false, eqb, if◌then◌else◌, List, length-append, true≢false, Result, Ok, Err, Some, length, take, refl, sym, ap, ◌∙◌, subst, append-nil, arith}
 use Rattle.std.proofs.lemmas.Bool.{cases_eq, eq-eqb, ne_eqb}
 use Rattle.std.proofs.lemmas.List.Sums.{fold-append}
 use Rattle.std.proofs.lemmas.List.{take-append-le, take_all}
-use Rattle.std.specs.Prelude.{OnErr, OnOk, is_err}
+use Rattle.std.proofs.lemmas.List.Elements.{All-contains, All-nil, All-push}
+use Rattle.std.specs.Prelude.{All, Contains, None, OnErr, OnOk, is_err}
 use Rattle.words.specs.declared.refusal.Refusal.{Refusal}
 use Rattle.persist.specs.declared.access.Change.{Change}
 use Rattle.persist.specs.Noted.{applied, change_made}
 use Rattle.journal.specs.Frame.{Batch}
-use Rattle.journal.specs.Journal.{words_after}
+use Rattle.journal.specs.Journal.{journal_of, words_after}
 use Rattle.journal.specs.Stops.{LeftByStop}
 use Rattle.journal_file.specs.OnDevice.{HasMore, HasNoMore, IsOf, KeepsAll, OnDevice}
 use Rattle.journal_file.specs.Restart.{ReadsBeginning}
 use Rattle.journal_file.proofs.Facts.{killed, stopped}
-use Rattle.lasting.specs.Lasting.{AreMoments, EndsAtMomentOf, HasMoments, HasMomentsUntil, IsKept, Kept, ReadsMoment}
+use Rattle.lasting.specs.Lasting.{AreMoments, Assures, EndsAtMomentOf, HasMoments, HasMomentsUntil, IsKept, IsKeptBy, Kept}
+use Rattle.lasting.specs.Lasting.{ReadsLater, ReadsMoment, sure_session}
+use Rattle.lasting.specs.declared.policy.Policy.{Policy}
+use Rattle.lasting.specs.declared.policy.Policy.TheVariants.{Always, EachSecond, Never}
 use Rattle.session.specs.Promises.{KeepsNumbers}
 use Rattle.session.specs.Sessions.{Sessioned}
 use Rattle.session.specs.Telling.{IsSettledTold}
-use Rattle.workers.specs.Moments.{GoesOnLater, IsMomentOf}
-use Rattle.workers.proofs.Facts.{later_itself, later_still}
+use Rattle.workers.specs.Moments.{GoesOnLater, HandedOn, IsMomentOf}
+use Rattle.workers.proofs.Facts.{all_later, later_itself, later_still}
 
 pub first_moment : (first : Sessioned) → KeepsNumbers first → IsSettledTold first
     → IsMomentOf first first first.broker.words.kept
@@ -271,98 +275,6 @@ pending_made first k is =
     ap (λ (cs : List Change). applied cs first.broker.words.kept) is.split
     ∙ (fold-append change_made first.broker.words.kept is.done k.pending ∙ ap (applied k.pending) (sym is.words))
 
--- a journal that ends at the moment of the last hand-on, and nothing is pending
-kept_ending : (first last : Sessioned) (handed pending : List Change) (j : OnDevice) → pending ≡ []
-    → j.words ≡ applied handed first.broker.words.kept
-    → IsMomentOf first last (applied handed first.broker.words.kept) → EndsAtMomentOf first last j
-    → IsKept first (record { handed = handed; last = last; pending = pending; journal = j })
-kept_ending first last handed pending j none words moment ends = record {
-  done = handed;
-  split = sym (append-nil handed) ∙ ap (λ (cs : List Change). handed ++ cs) (sym none);
-  words = words;
-  now = moment;
-  journal = ends_until first last j ends;
-  latest = λ empty. ends;
-}
-
--- it begins
-pub kept_begun : (first last : Sessioned) (handed pending : List Change) (key words : List ℕ) (j : OnDevice)
-    → pending ≡ [] → words ≡ applied handed first.broker.words.kept → IsMomentOf first last words
-    → IsOf key words [] 0 j → IsKept first (record { handed = handed; last = last; pending = pending; journal = j })
-kept_begun first last handed pending key words j none made moment of =
-    kept_ending first last handed pending j none (of.words ∙ made) (subst (IsMomentOf first last) made moment)
-    (begins first last key words j moment of)
-
--- what was pending was appended
-pub kept_appended : (first : Sessioned) (k : Kept) (new : OnDevice) (pending changes : List Change) → IsKept first k
-    → pending ≡ [] → changes ≡ k.pending → HasMore (record { kept = k.journal.kept; changes = changes }) k.journal new
-    → new.words ≡ applied changes k.journal.words
-    → IsKept first (record { handed = k.handed; last = k.last; pending = pending; journal = new })
-kept_appended first k new pending changes is none those more words =
-    let made : applied k.handed first.broker.words.kept ≡ applied changes k.journal.words =
-    pending_made first k is ∙ ap (λ (cs : List Change). applied cs k.journal.words) (sym those) in
-    kept_ending first k.last k.handed pending new none (words ∙ sym made) is.now
-    (has_more first k.last (record { kept = k.journal.kept; changes = changes }) k.journal new is.journal more
-    (subst (IsMomentOf first k.last) made is.now))
-
--- it was not, or something else of the device changed
-pub kept_no_more : (first : Sessioned) (k : Kept) (new : OnDevice) → IsKept first k → HasNoMore k.journal new
-    → new.words ≡ k.journal.words
-    → IsKept first (record { handed = k.handed; last = k.last; pending = k.pending; journal = new })
-kept_no_more first k new is same words = record {
-  done = is.done;
-  split = is.split;
-  words = words ∙ is.words;
-  now = is.now;
-  journal = until_no_more first k.last k.journal new is.journal same;
-  latest = λ none. ends_no_more first k.last k.journal new (is.latest none) same;
-}
-
-pub kept_kept : (first : Sessioned) (k : Kept) (new : OnDevice) → IsKept first k → KeepsAll k.journal new
-    → new.words ≡ k.journal.words
-    → IsKept first (record { handed = k.handed; last = k.last; pending = k.pending; journal = new })
-kept_kept first k new is keeps words = record {
-  done = is.done;
-  split = is.split;
-  words = words ∙ is.words;
-  now = is.now;
-  journal = until_kept first k.last k.journal new is.journal keeps;
-  latest = λ none. ends_kept first k.last k.journal new (is.latest none) keeps;
-}
-
--- what an answer that is no refusal says
-pub on_ok : {T : Type 0} (P : Type 0) (answer : Result T Refusal) → is_err answer ≡ false → OnOk answer P → P
-on_ok {T} P (Ok done) fine holds = holds
-on_ok {T} P (Err refusal) fine holds = absurd (true≢false fine)
-
--- by a keep
-pub kept_keeping : {T : Type 0} (first : Sessioned) (k : Kept) (new : OnDevice) (answer : Result T Refusal) → IsKept first k
-    → OnOk answer (KeepsAll k.journal new) → OnErr answer (HasNoMore k.journal new) → new.words ≡ k.journal.words
-    → IsKept first (record { handed = k.handed; last = k.last; pending = k.pending; journal = new })
-kept_keeping {T} first k new (Ok done) is keeps same words = kept_kept first k new is keeps words
-kept_keeping {T} first k new (Err refusal) is keeps same words = kept_no_more first k new is same words
-
--- more was handed on, where nothing was pending: the moment goes on from that of the hand-on before
-pub kept_more : (first : Sessioned) (k : Kept) (last : Sessioned) (handed batch : List Change) → IsKept first k
-    → k.pending ≡ [] → handed ≡ k.handed ++ batch → IsMomentOf first last (applied handed first.broker.words.kept)
-    → GoesOnLater k.last last
-    → IsKept first (record { handed = handed; last = last; pending = batch; journal = k.journal })
-kept_more first k last handed batch is none more moment on =
-    let all = kept_all first k is none in
-    let ends = is.latest none in
-    record {
-      done = k.handed;
-      split = more;
-      words = all;
-      now = moment;
-      journal = record { has = ends.has; later = subst (λ (s : Sessioned). GoesOnLater s last) (sym ends.latest) on };
-      latest = λ empty.
-          let same : handed ≡ k.handed = more ∙ (ap (λ (cs : List Change). k.handed ++ cs) empty ∙ append-nil k.handed) in
-          has_same first k.last last k.journal ends on
-          (subst (IsMomentOf first last)
-          (ap (λ (cs : List Change). applied cs first.broker.words.kept) same ∙ sym all) moment);
-    }
-
 -- the journal's words are those of a moment
 pub moment_now : (first last : Sessioned) (j : OnDevice) (until : HasMomentsUntil first last j)
     → IsMomentOf first (until.has.session (length until.has.batches)) j.words
@@ -376,10 +288,248 @@ moment_now first last j until =
 pub kept_whole : (key base : List ℕ) (j : OnDevice) → IsOf key base [] 0 j → j.kept ≡ j.size
 kept_whole key base j of = of.kept ∙ sym of.size
 
+-- what an answer that is no refusal says
+pub on_ok : {T : Type 0} (P : Type 0) (answer : Result T Refusal) → is_err answer ≡ false → OnOk answer P → P
+on_ok {T} P (Ok done) fine holds = holds
+on_ok {T} P (Err refusal) fine holds = absurd (true≢false fine)
+
+-- the last session goes on from the one that a stop leaves
+pub sure_before : (first last : Sessioned) (policy : Policy) (j : OnDevice) (until : HasMomentsUntil first last j)
+    → GoesOnLater (sure_session first j policy until.has) last
+sure_before first last Always j until =
+    let has = until.has in
+    later_still (has.session has.count) (has.session (length has.batches)) last
+    (has.moments.later has.count (length has.batches) has.of.some (omega arith)) until.later
+sure_before first last EachSecond j until = until.later
+sure_before first last Never j until = until.later
+
+-- that one goes on from what it was, where the journal has no batch more
+sure_no_more : (first last : Sessioned) (policy : Policy) (old new : OnDevice) (until : HasMomentsUntil first last old)
+    (same : HasNoMore old new)
+    → GoesOnLater (sure_session first old policy until.has)
+    (sure_session first new policy (until_no_more first last old new until same).has)
+sure_no_more first last Always old new until same = later_itself (until.has.session until.has.count)
+sure_no_more first last EachSecond old new until same = later_itself (until.has.session (length until.has.batches))
+sure_no_more first last Never old new until same = later_itself (until.has.session (length until.has.batches))
+
+-- where all are kept
+sure_kept : (first last : Sessioned) (policy : Policy) (old new : OnDevice) (until : HasMomentsUntil first last old)
+    (keeps : KeepsAll old new)
+    → GoesOnLater (sure_session first old policy until.has)
+    (sure_session first new policy (until_kept first last old new until keeps).has)
+sure_kept first last Always old new until keeps =
+    let has = until.has in
+    has.moments.later has.count (length has.batches) has.of.some (omega arith)
+sure_kept first last EachSecond old new until keeps = later_itself (until.has.session (length until.has.batches))
+sure_kept first last Never old new until keeps = later_itself (until.has.session (length until.has.batches))
+
+-- where it has one more
+sure_more : (first last : Sessioned) (policy : Policy) (batch : Batch) (old new : OnDevice)
+    (until : HasMomentsUntil first last old) (more : HasMore batch old new)
+    (moment : IsMomentOf first last (applied batch.changes old.words))
+    → GoesOnLater (sure_session first old policy until.has)
+    (sure_session first new policy (has_more first last batch old new until more moment).has)
+sure_more first last Always batch old new until more moment =
+    let has = until.has in
+    let top = length (has.batches ++ batch ∷ []) in
+    let apart : has.count ≢ top = λ same. omega (arith, same, has.of.some, length-append has.batches (batch ∷ [])) in
+    subst (GoesOnLater (has.session has.count)) (sym (with_else has.session top last has.count apart))
+    (later_itself (has.session has.count))
+sure_more first last EachSecond batch old new until more moment =
+    let top = length (until.has.batches ++ batch ∷ []) in
+    subst (GoesOnLater (until.has.session (length until.has.batches))) (sym (with_here until.has.session top last top refl))
+    until.later
+sure_more first last Never batch old new until more moment =
+    let top = length (until.has.batches ++ batch ∷ []) in
+    subst (GoesOnLater (until.has.session (length until.has.batches))) (sym (with_here until.has.session top last top refl))
+    until.later
+
+-- all are kept
+all_kept : (key base : List ℕ) (batches : List Batch) (count : ℕ) (j : OnDevice) → IsOf key base batches count j
+    → j.kept ≡ j.size → IsOf key base batches (length batches) j
+all_kept key base batches count j of same = record {
+  journal = of.journal;
+  words = of.words;
+  size = of.size;
+  some = omega arith;
+  kept = same ∙ of.size
+      ∙ ap (λ (bs : List Batch). length (journal_of key base bs)) (sym (take_all (length batches) batches (omega arith)));
+  lasting = of.lasting;
+  going = of.going;
+  over = of.over;
+}
+
+-- a journal that ends at a moment, and is kept as the policy says: a stop leaves the session of that moment
+record IsSure (first last : Sessioned) (policy : Policy) (j : OnDevice) : Type 0 where
+  until : HasMomentsUntil first last j
+  sure : sure_session first j policy until.has ≡ last
+
+sure_at_end : (first last : Sessioned) (policy : Policy) (j : OnDevice) → EndsAtMomentOf first last j → IsKeptBy policy j
+    → IsSure first last policy j
+sure_at_end first last Always j ends kept =
+    let has = ends.has in
+    let all : HasMoments first j = has_count first j j has (length has.batches)
+    (all_kept has.key has.base has.batches has.count j has.of kept) in
+    record { until = ends_until first last j (record { has = all; latest = ends.latest }); sure = ends.latest }
+sure_at_end first last EachSecond j ends kept = record { until = ends_until first last j ends; sure = ends.latest }
+sure_at_end first last Never j ends kept = record { until = ends_until first last j ends; sure = ends.latest }
+
+-- each session that was assured
+abbrev AreSure : (first : Sessioned) (j : OnDevice) → Policy → HasMoments first j → List Sessioned → Type 0
+AreSure first j policy has assured = All (λ s. GoesOnLater s (sure_session first j policy has)) assured
+
+-- a journal that ends at the moment of the last hand-on, and nothing is pending
+kept_ending : (first last : Sessioned) (policy : Policy) (handed pending : List Change) (j : OnDevice)
+    (assured : List Sessioned) → pending ≡ [] → j.words ≡ applied handed first.broker.words.kept
+    → IsMomentOf first last (applied handed first.broker.words.kept) → (ends : EndsAtMomentOf first last j)
+    → AreSure first j policy ends.has assured
+    → IsKept first (record {
+      policy = policy;
+      handed = handed;
+      last = last;
+      pending = pending;
+      journal = j;
+      assured = assured;
+    })
+kept_ending first last policy handed pending j assured none words moment ends sure = record {
+  done = handed;
+  split = sym (append-nil handed) ∙ ap (λ (cs : List Change). handed ++ cs) (sym none);
+  words = words;
+  now = moment;
+  journal = ends_until first last j ends;
+  latest = λ empty. ends;
+  assured = sure;
+}
+
+-- it begins
+pub kept_begun : (first : Sessioned) (policy : Policy) (handed : HandedOn) (pending : List Change) (key words : List ℕ)
+    (j : OnDevice) → pending ≡ [] → words ≡ applied handed.changes first.broker.words.kept
+    → IsMomentOf first handed.last words → handed.assured ≡ [] → IsOf key words [] 0 j
+    → IsKept first (record {
+      policy = policy;
+      handed = handed.changes;
+      last = handed.last;
+      pending = pending;
+      journal = j;
+      assured = handed.assured;
+    })
+kept_begun first policy handed pending key words j none made moment nothing of =
+    let ends = begins first handed.last key words j moment of in
+    kept_ending first handed.last policy handed.changes pending j handed.assured none (of.words ∙ made)
+    (subst (IsMomentOf first handed.last) made moment) ends
+    (subst (AreSure first j policy ends.has) (sym nothing)
+    (All-nil (λ s. GoesOnLater s (sure_session first j policy ends.has))))
+
+-- what was pending was appended
+pub kept_appended : (first : Sessioned) (k : Kept) (new : OnDevice) (pending changes : List Change) → IsKept first k
+    → pending ≡ [] → changes ≡ k.pending → HasMore (record { kept = k.journal.kept; changes = changes }) k.journal new
+    → new.words ≡ applied changes k.journal.words
+    → IsKept first (record k { pending = pending; journal = new })
+kept_appended first k new pending changes is none those more words =
+    let batch : Batch = record { kept = k.journal.kept; changes = changes } in
+    let made : applied k.handed first.broker.words.kept ≡ applied changes k.journal.words =
+    pending_made first k is ∙ ap (λ (cs : List Change). applied cs k.journal.words) (sym those) in
+    let moment : IsMomentOf first k.last (applied changes k.journal.words) = subst (IsMomentOf first k.last) made is.now in
+    kept_ending first k.last k.policy k.handed pending new k.assured none (words ∙ sym made) is.now
+    (has_more first k.last batch k.journal new is.journal more moment)
+    (all_later k.assured _ _ is.assured (sure_more first k.last k.policy batch k.journal new is.journal more moment))
+
+-- it was not, or something else of the device changed
+pub kept_no_more : (first : Sessioned) (k : Kept) (new : OnDevice) → IsKept first k → HasNoMore k.journal new
+    → new.words ≡ k.journal.words → IsKept first (record k { journal = new })
+kept_no_more first k new is same words = record {
+  done = is.done;
+  split = is.split;
+  words = words ∙ is.words;
+  now = is.now;
+  journal = until_no_more first k.last k.journal new is.journal same;
+  latest = λ none. ends_no_more first k.last k.journal new (is.latest none) same;
+  assured = all_later k.assured _ _ is.assured (sure_no_more first k.last k.policy k.journal new is.journal same);
+}
+
+pub kept_kept : (first : Sessioned) (k : Kept) (new : OnDevice) → IsKept first k → KeepsAll k.journal new
+    → new.words ≡ k.journal.words → IsKept first (record k { journal = new })
+kept_kept first k new is keeps words = record {
+  done = is.done;
+  split = is.split;
+  words = words ∙ is.words;
+  now = is.now;
+  journal = until_kept first k.last k.journal new is.journal keeps;
+  latest = λ none. ends_kept first k.last k.journal new (is.latest none) keeps;
+  assured = all_later k.assured _ _ is.assured (sure_kept first k.last k.policy k.journal new is.journal keeps);
+}
+
+-- by a keep
+pub kept_keeping : {T : Type 0} (first : Sessioned) (k : Kept) (new : OnDevice) (answer : Result T Refusal) → IsKept first k
+    → OnOk answer (KeepsAll k.journal new) → OnErr answer (HasNoMore k.journal new) → new.words ≡ k.journal.words
+    → IsKept first (record k { journal = new })
+kept_keeping {T} first k new (Ok done) is keeps same words = kept_kept first k new is keeps words
+kept_keeping {T} first k new (Err refusal) is keeps same words = kept_no_more first k new is same words
+
+-- more was handed on, where nothing was pending: the moment goes on from that of the hand-on before
+pub kept_more : (first : Sessioned) (k : Kept) (last : Sessioned) (handed batch : List Change) (assured : List Sessioned)
+    → IsKept first k → k.pending ≡ [] → handed ≡ k.handed ++ batch
+    → IsMomentOf first last (applied handed first.broker.words.kept) → GoesOnLater k.last last → assured ≡ k.assured
+    → IsKept first (record k { handed = handed; last = last; pending = batch; assured = assured })
+kept_more first k last handed batch assured is none more moment on those =
+    let all = kept_all first k is none in
+    let has = is.journal.has in
+    record {
+      done = k.handed;
+      split = more;
+      words = all;
+      now = moment;
+      journal = record {
+        has = has;
+        later = later_still (has.session (length has.batches)) k.last last is.journal.later on;
+      };
+      latest = λ empty.
+          let same : handed ≡ k.handed = more ∙ (ap (λ (cs : List Change). k.handed ++ cs) empty ∙ append-nil k.handed) in
+          has_same first k.last last k.journal (is.latest none) on
+          (subst (IsMomentOf first last)
+          (ap (λ (cs : List Change). applied cs first.broker.words.kept) same ∙ sym all) moment);
+      assured = subst (AreSure first k.journal k.policy has) (sym those) is.assured;
+    }
+
+-- a session is assured from which that of the last hand-on goes on, and nothing is pending
+pub kept_assured : (first : Sessioned) (k : Kept) (s : Sessioned) → IsKept first k → k.pending ≡ []
+    → IsKeptBy k.policy k.journal → GoesOnLater s k.last → IsKept first (record k { assured = k.assured ++ s ∷ [] })
+kept_assured first k s is none kept on =
+    let sure = sure_at_end first k.last k.policy k.journal (is.latest none) kept in
+    record {
+      done = is.done;
+      split = is.split;
+      words = is.words;
+      now = is.now;
+      journal = sure.until;
+      latest = is.latest;
+      assured = subst (λ (last : Sessioned). All (λ t. GoesOnLater t last) (k.assured ++ s ∷ [])) (sym sure.sure)
+          (All-push (λ t. GoesOnLater t k.last) k.assured s
+          (all_later k.assured _ _ is.assured (sure_before first k.last k.policy k.journal is.journal)) on);
+    }
+
+-- so each that was assured is so
+pub kept_assures : (first : Sessioned) (k : Kept) (s : Sessioned) → IsKept first k → Contains k.assured s
+    → Assures first k.policy s k.journal
+kept_assures first k s is there = record {
+  has = is.journal.has;
+  later = All-contains (λ t. GoesOnLater t (sure_session first k.journal k.policy is.journal.has)) k.assured s is.assured there;
+}
+
 -- it goes on as its words and no batch
+sure_compacted : (first last : Sessioned) (policy : Policy) (key : List ℕ) (old new : OnDevice)
+    (until : HasMomentsUntil first last old) (of : IsOf key old.words [] 0 new)
+    → GoesOnLater (sure_session first old policy until.has)
+    (sure_session first new policy
+    (begins first (until.has.session (length until.has.batches)) key old.words new (moment_now first last old until) of).has)
+sure_compacted first last Always key old new until of =
+    let has = until.has in
+    has.moments.later has.count (length has.batches) has.of.some (omega arith)
+sure_compacted first last EachSecond key old new until of = later_itself (until.has.session (length until.has.batches))
+sure_compacted first last Never key old new until of = later_itself (until.has.session (length until.has.batches))
+
 pub kept_compacted : (first : Sessioned) (k : Kept) (key : List ℕ) (new : OnDevice) → IsKept first k
-    → IsOf key k.journal.words [] 0 new
-    → IsKept first (record { handed = k.handed; last = k.last; pending = k.pending; journal = new })
+    → IsOf key k.journal.words [] 0 new → IsKept first (record k { journal = new })
 kept_compacted first k key new is of =
     let until = is.journal in
     let was = until.has.session (length until.has.batches) in
@@ -390,10 +540,66 @@ kept_compacted first k key new is of =
       split = is.split;
       words = of.words ∙ is.words;
       now = is.now;
-      journal = record { has = ends.has; later = subst (λ (s : Sessioned). GoesOnLater s k.last) (sym ends.latest) until.later };
+      journal = record { has = ends.has; later = until.later };
       latest = λ none.
           let before = is.latest none in
           let at : HasMomentsUntil first k.last k.journal = ends_until first k.last k.journal before in
           begins first k.last key k.journal.words new
           (subst (λ (s : Sessioned). IsMomentOf first s k.journal.words) before.latest (moment_now first k.last k.journal at)) of;
+      assured = all_later k.assured _ _ is.assured (sure_compacted first k.last k.policy key k.journal new until of);
     }
+
+-- what a stop leaves of a journal that assures a session, also of power where the policy is to keep always
+pub stopped_later : (first s : Sessioned) (j : OnDevice) (left : List ℕ) (a : Assures first Always s j)
+    → LeftByStop a.has.key a.has.base a.has.batches j.kept left → ReadsLater first s j a.has left
+stopped_later first s j left a stop =
+    let has = a.has in
+    let reads = stopped_moment first has.key has.base has.batches has.count j has.session left has.moments has.of stop in
+    record {
+      reads = reads;
+      later = later_still s (has.session has.count) (has.session reads.whole) a.later (reads.later has.count reads.those);
+    }
+
+-- as if all had been kept, on a device of which nothing is known
+whole_kept : (key base : List ℕ) (batches : List Batch) (count : ℕ) (j : OnDevice) → IsOf key base batches count j
+    → IsOf key base batches (length batches) (record j { kept = j.size; appended = None; failed = true })
+whole_kept key base batches count j of = record {
+  journal = of.journal;
+  words = of.words;
+  size = of.size;
+  some = omega arith;
+  kept = of.size
+      ∙ ap (λ (bs : List Batch). length (journal_of key base bs)) (sym (take_all (length batches) batches (omega arith)));
+  lasting = tt;
+  going = λ going. absurd (true≢false going);
+  over = λ failed. tt;
+}
+
+-- what a kill leaves of it, whatever the policy is
+pub killed_later : (first s : Sessioned) (policy : Policy) (j : OnDevice) (left : List ℕ) (a : Assures first policy s j)
+    → LeftByStop a.has.key a.has.base a.has.batches j.size left → ReadsLater first s j a.has left
+killed_later first s policy j left a stop =
+    let has = a.has in
+    let whole_j : OnDevice = record j { kept = j.size; appended = None; failed = true } in
+    let reads = stopped_moment first has.key has.base has.batches (length has.batches) whole_j has.session left has.moments
+    (whole_kept has.key has.base has.batches has.count j has.of) stop in
+    let few : has.count ≤ reads.whole = omega (arith, has.of.some, reads.those) in
+    record {
+      reads = record {
+        whole = reads.whole;
+        those = few;
+        some = reads.some;
+        cut = reads.cut;
+        read = reads.read;
+        moment = reads.moment;
+        later = reads.later;
+      };
+      later = later_still s (sure_session first j policy has) (has.session reads.whole) a.later
+          (sure_read policy (reads.later has.count few) (reads.later (length has.batches) reads.those));
+    }
+  where
+    sure_read : (p : Policy) {last : Sessioned} → GoesOnLater (a.has.session a.has.count) last
+        → GoesOnLater (a.has.session (length a.has.batches)) last → GoesOnLater (sure_session first j p a.has) last
+    sure_read Always one other = one
+    sure_read EachSecond one other = other
+    sure_read Never one other = other

@@ -1,5 +1,5 @@
 -- Journals of shared sessions, of which each beginning ends at a moment, and the later of two goes on from the earlier.
-use Rattle.std.specs.Prelude.{◌≡◌, ◌≤◌, ◌++◌, [], ℕ, List, length, take, Ok}
+use Rattle.std.specs.Prelude.{◌≡◌, ◌≤◌, ◌++◌, [], ⊤, ℕ, List, length, take, All, Ok}
 use Rattle.persist.specs.declared.access.Change.{Change}
 use Rattle.persist.specs.Noted.{applied}
 use Rattle.journal.specs.Frame.{Batch}
@@ -8,6 +8,8 @@ use Rattle.journal.specs.Reading.{reading}
 use Rattle.journal_file.specs.OnDevice.{IsOf, OnDevice}
 use Rattle.session.specs.Sessions.{Sessioned}
 use Rattle.workers.specs.Moments.{GoesOnLater, IsMomentOf}
+use Rattle.lasting.specs.declared.policy.Policy.{Policy}
+use Rattle.lasting.specs.declared.policy.Policy.TheVariants.{Always, EachSecond, Never}
 
 -- the words after each beginning of these batches are those of a moment, of the session that is told for it; and the
 -- session of a longer beginning goes on from that of a shorter one
@@ -36,16 +38,36 @@ pub record EndsAtMomentOf (first last : Sessioned) (j : OnDevice) : Type 0 where
   pub has : HasMoments first j
   pub latest : has.session (length has.batches) ≡ last
 
--- a journal, and what was handed on for it: all changes with the session as it was at the last time, and those that the
--- journal does not have yet
+-- what the policy is to have kept is kept
+abbrev pub IsKeptBy : Policy → OnDevice → Type 0
+IsKeptBy Always j = j.kept ≡ j.size
+IsKeptBy EachSecond j = ⊤
+IsKeptBy Never j = ⊤
+
+-- the session that a stop leaves by the policy, or a later one: that at the end of the batches that were kept, where it is
+-- to keep always, since they outlast a loss of power too; else that at the end of all, as a kill leaves them
+abbrev pub sure_session : (first : Sessioned) (j : OnDevice) → Policy → HasMoments first j → Sessioned
+sure_session first j Always has = has.session has.count
+sure_session first j EachSecond has = has.session (length has.batches)
+sure_session first j Never has = has.session (length has.batches)
+
+-- that one goes on from this session
+pub record Assures (first : Sessioned) (policy : Policy) (s : Sessioned) (j : OnDevice) : Type 0 where
+  pub has : HasMoments first j
+  pub later : GoesOnLater s (sure_session first j policy has)
+
+-- a journal with its policy, and what was handed on for it: all changes with the session as it was at the last time, and
+-- those that the journal does not have yet; and the sessions that were assured
 pub record Kept : Type 0 where
+  pub policy : Policy
   pub handed : List Change
   pub last : Sessioned
   pub pending : List Change
   pub journal : OnDevice
+  pub assured : List Sessioned
 
 -- the journal has the changes that are not pending. It ends at a moment from which that of the last hand-on goes on,
--- and where nothing is pending it ends at that one
+-- and where nothing is pending it ends at that one. The session that a stop leaves goes on from each that was assured
 pub record IsKept (first : Sessioned) (k : Kept) : Type 0 where
   pub done : List Change
   pub split : k.handed ≡ done ++ k.pending
@@ -53,6 +75,7 @@ pub record IsKept (first : Sessioned) (k : Kept) : Type 0 where
   pub now : IsMomentOf first k.last (applied k.handed first.broker.words.kept)
   pub journal : HasMomentsUntil first k.last k.journal
   pub latest : k.pending ≡ [] → EndsAtMomentOf first k.last k.journal
+  pub assured : All (λ s. GoesOnLater s (sure_session first k.journal k.policy journal.has)) k.assured
 
 -- Bytes are read as the words of a moment, after a beginning of the batches that has so many of them at least. Its
 -- session goes on from that of each shorter beginning
@@ -65,3 +88,8 @@ pub record ReadsMoment (first : Sessioned) (key base : List ℕ) (batches : List
   pub read : reading bytes ≡ Ok (record { key = key; words = words_after (take whole batches) base; cut = cut })
   pub moment : IsMomentOf first (session whole) (words_after (take whole batches) base)
   pub later : (m : ℕ) → m ≤ whole → GoesOnLater (session m) (session whole)
+
+-- and from this one
+pub record ReadsLater (first s : Sessioned) (j : OnDevice) (has : HasMoments first j) (bytes : List ℕ) : Type 0 where
+  pub reads : ReadsMoment first has.key has.base has.batches has.count has.session bytes
+  pub later : GoesOnLater s (has.session reads.whole)

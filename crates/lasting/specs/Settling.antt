@@ -1,10 +1,9 @@
 -- Journals of shared sessions that are kept by a policy.
-use Rattle.std.specs.Prelude.{◌≡◌, Bool, false, [], ⊤}
+use Rattle.std.specs.Prelude.{◌≡◌, Bool, false, []}
 use Rattle.persist.specs.Noted.{applied}
 use Rattle.session.specs.Sessions.{Sessioned}
-use Rattle.lasting.specs.Lasting.{Kept}
+use Rattle.lasting.specs.Lasting.{IsKeptBy, Kept}
 use Rattle.lasting.specs.declared.policy.Policy.{Policy}
-use Rattle.lasting.specs.declared.policy.Policy.TheVariants.{Always, EachSecond, Never}
 
 -- a journal with its policy, and whether it has failed for good
 pub record Settled : Type 0 where
@@ -12,15 +11,9 @@ pub record Settled : Type 0 where
   pub policy : Policy
   pub failed : Bool
 
--- what the policy is to have kept is kept
-abbrev pub IsKeptBy : Policy → Settled → Type 0
-IsKeptBy Always s = s.kept.journal.kept ≡ s.kept.journal.size
-IsKeptBy EachSecond s = ⊤
-IsKeptBy Never s = ⊤
-
 -- every change that was handed on is appended, to a device that has not failed, and kept as the policy says
 pub record HasSettled (first : Sessioned) (s : Settled) : Type 0 where
   pub all : s.kept.pending ≡ []
   pub words : s.kept.journal.words ≡ applied s.kept.handed first.broker.words.kept
   pub going : s.kept.journal.failed ≡ false
-  pub by_policy : IsKeptBy s.policy s
+  pub by_policy : IsKeptBy s.policy s.kept.journal

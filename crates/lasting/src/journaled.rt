@@ -1,15 +1,14 @@
 //! The journal of a shared session.
 
-ghost use Rattle.std.specs.Prelude.{◌≡◌, ◌⊎◌, [], false, length, true, IfErr, IfOk, OnErr, OnOk};
+ghost use Rattle.std.specs.Prelude.{◌≡◌, ◌⊎◌, ◌++◌, ◌∷◌, [], false, true, IfErr, IfOk, OnErr, OnOk};
 ghost use Rattle.persist.specs.Noted.{applied};
-ghost use Rattle.lasting.specs.Lasting.{EndsAtMomentOf, HasMoments, HasMomentsUntil, IsKept};
+ghost use Rattle.lasting.specs.Lasting.{Assures, EndsAtMomentOf, HasMoments, HasMomentsUntil, IsKept, IsKeptBy};
 ghost use Rattle.session.specs.Keeping.{SessionGoesOn};
 ghost use Rattle.session.specs.Promises.{KeepsNumbers};
-ghost use Rattle.witness.specs.Counts.{IsCountOf};
-ghost use Rattle.witness.specs.Rule.{Begins};
 ghost use Rattle.workers.specs.Moments.{GoesOnLater, IsMomentOf};
 ghost use Rattle.workers.specs.Seats.{AreAllInOrder, AreSeatsRecorded};
 
+use crate::policy::Policy;
 use journal::KEY_BYTES;
 use journal_file::{Appender, Journal};
 use persist::Change;
@@ -18,12 +17,14 @@ use std::alloc::Global;
 use std::marker::Model;
 use std::sync::Wait;
 use words::Refusal;
-use workers::{Handed, Marked, Naming, Seat, Shared};
+use workers::{Assured, Handed, Marked, Naming, Seat, Shared};
 
 /// The journal of a shared session, with the one who hands its changes on. Changes that were handed on and could not be
-/// appended are pending, and appended first the next time.
+/// appended are pending, and appended first the next time. By the policy it is told what outlasts a stop: it assures a
+/// session only once that does.
 #[derive(Drop)]
 pub struct Journaled<J: Naming, F: Appender + Drop> {
+    policy: Policy,
     handed: Handed<J>,
     pending: Vec<Change>,
     journal: Journal<F>,
@@ -35,17 +36,21 @@ impl<J: Naming, F: Appender + Drop> Model for Journaled<J, F> {
     ghost Value = { Kept };
 
     ghost view = { λ k. record {
+      policy = k.policy;
       handed = k.handed.changes;
       last = k.handed.last;
       pending = k.pending.items;
       journal = k.journal;
+      assured = k.handed.assured;
     } };
 
     ghost invariant = { λ k. IsKept J.first (record {
+      policy = k.policy;
       handed = k.handed.changes;
       last = k.handed.last;
       pending = k.pending.items;
       journal = k.journal;
+      assured = k.handed.assured;
     }) };
 }
 
@@ -53,10 +58,11 @@ impl<J: Naming, F: Appender + Drop> Journaled<J, F> {
     ghost use Rattle.journal_file.specs.Appended.{IsFresh};
     ghost use Rattle.journal_file.specs.OnDevice.{IsOf};
 
-    /// A journal that begins on these words, which are the kept ones that all changes handed on so far make. It is
-    /// refused as [`Journal::begin`] is, and then nobody hands changes on any more.
+    /// A journal that begins on these words, which are the kept ones that all changes handed on so far make; and nothing
+    /// is assured yet. It is refused as [`Journal::begin`] is, and then nobody hands changes on any more.
     pub fn begin(
         alloc: Global,
+        policy: Policy,
         handed: Handed<J>,
         device: F,
         key: &[u8; KEY_BYTES],
@@ -65,12 +71,15 @@ impl<J: Naming, F: Appender + Drop> Journaled<J, F> {
         requires fresh { IsFresh (F.appended device) }
         requires words { words.items ≡ applied handed.changes J.first.broker.words.kept }
         requires moment { IsMomentOf J.first handed.last words.items }
+        requires nothing { handed.assured ≡ [] }
+        ensures policy { IfOk result (λ k. k.policy ≡ policy) }
         ensures handed { IfOk result (λ k. k.handed ≡ handed.changes) }
         ensures all { IfOk result (λ k. k.pending ≡ []) }
         ensures going { IfOk result (λ k. k.journal.failed ≡ false) }
     {
         let journal = Journal::begin(alloc, device, key, words)?;
         Ok(Journaled {
+            policy,
             handed,
             pending: Vec::new(alloc),
             journal,
@@ -85,36 +94,85 @@ impl<J: Naming, F: Appender + Drop> Journaled<J, F> {
         &self.journal
     }
 
-    /// How many changes were handed on, those that are pending among them.
-    pub fn count(&self) -> u64
-        ensures { IsCountOf result (length self.now.handed) }
+    /// The policy by which it assures.
+    pub fn policy(&self) -> Policy
+        ensures { result ≡ self.now.policy }
     {
-        self.handed.count()
+        self.policy
     }
 
-    /// Whether all changes that were marked were handed on. All comes back as it was.
+    /// Whether the session of the last hand-on goes on from the marked one. All comes back as it was.
     pub fn has_handed<R: Wait>(
         self,
         rt: &R,
         shared: &Shared<J>,
         marked: Marked<J>,
     ) -> (Self, Marked<J>, bool)
-        ensures handed { result.2 ≡ true → Begins marked self.handed }
+        ensures handed { result.2 ≡ true → GoesOnLater marked self.last }
         ensures same { result.0 ≡ self }
         ensures mark { result.1 ≡ marked }
     {
         let Journaled {
+            policy,
             handed,
             pending,
             journal,
         } = self;
         let (handed, marked, has) = shared.has_handed(rt, handed, marked);
         let journaled = Journaled {
+            policy,
             handed,
             pending,
             journal,
         };
         (journaled, marked, has)
+    }
+
+    /// Assures a session from which that of the last hand-on goes on: all of this is appended, and kept as the policy
+    /// says.
+    pub fn assure(self, marked: &Marked<J>) -> (Self, Assured<J>)
+        requires all { self.pending ≡ [] }
+        requires kept { IsKeptBy self.policy self.journal }
+        requires later { GoesOnLater marked.now self.last }
+        ensures journaled { result.0 ≡ record self { assured = self.assured ++ marked.now ∷ [] } }
+        ensures assured { result.1 ≡ marked.now }
+    {
+        let Journaled {
+            policy,
+            handed,
+            pending,
+            journal,
+        } = self;
+        let (handed, assured) = handed.assure(marked);
+        let journaled = Journaled {
+            policy,
+            handed,
+            pending,
+            journal,
+        };
+        (journaled, assured)
+    }
+
+    /// Hears a token: the journal assures its session. Both come back as they were.
+    pub fn hears(self, assured: Assured<J>) -> (Self, Assured<J>)
+        ensures sure { Assures J.first self.policy assured self.journal }
+        ensures journaled { result.0 ≡ self }
+        ensures assured { result.1 ≡ assured }
+    {
+        let Journaled {
+            policy,
+            handed,
+            pending,
+            journal,
+        } = self;
+        let (handed, assured) = handed.hears(assured);
+        let journaled = Journaled {
+            policy,
+            handed,
+            pending,
+            journal,
+        };
+        (journaled, assured)
     }
 
     /// Whether the journal has every change that was handed on.
@@ -138,6 +196,7 @@ impl<J: Naming, F: Appender + Drop> Journaled<J, F> {
         ensures all { OnOk result (self.new.pending ≡ []) }
         ensures words { OnOk result
             (self.new.journal.words ≡ applied self.new.handed J.first.broker.words.kept) }
+        ensures policy { self.new.policy ≡ self.old.policy }
         ensures handed { self.new.handed ≡ self.old.handed }
         ensures last { self.new.last ≡ self.old.last }
         ensures pending { OnErr result (self.new.pending ≡ self.old.pending) }
@@ -164,6 +223,7 @@ impl<J: Naming, F: Appender + Drop> Journaled<J, F> {
         ensures words { OnOk result.1
             (result.0.journal.words ≡ applied result.0.handed J.first.broker.words.kept) }
         ensures later { GoesOnLater self.last result.0.last }
+        ensures policy { result.0.policy ≡ self.policy }
     {
         let mut kept = self;
         if let Err(refusal) = kept.append_pending(alloc) {
@@ -186,8 +246,10 @@ impl<J: Naming, F: Appender + Drop> Journaled<J, F> {
     ) -> (Self, Result<(), Refusal>)
         requires { self.pending ≡ [] }
         ensures later { GoesOnLater self.last result.0.last }
+        ensures policy { result.0.policy ≡ self.policy }
     {
         let Journaled {
+            policy,
             handed,
             pending,
             journal,
@@ -196,6 +258,7 @@ impl<J: Naming, F: Appender + Drop> Journaled<J, F> {
         match batch {
             Ok(batch) => (
                 Journaled {
+                    policy,
                     handed,
                     pending: batch,
                     journal,
@@ -204,6 +267,7 @@ impl<J: Naming, F: Appender + Drop> Journaled<J, F> {
             ),
             Err(refusal) => (
                 Journaled {
+                    policy,
                     handed,
                     pending,
                     journal,
@@ -215,6 +279,7 @@ impl<J: Naming, F: Appender + Drop> Journaled<J, F> {
 
     /// Keeps all batches that were appended, as [`Journal::keep`] does, and is refused as that is.
     pub fn keep(&mut self) -> Result<(), Refusal>
+        ensures policy { self.new.policy ≡ self.old.policy }
         ensures handed { self.new.handed ≡ self.old.handed }
         ensures last { self.new.last ≡ self.old.last }
         ensures pending { self.new.pending ≡ self.old.pending }
@@ -228,6 +293,7 @@ impl<J: Naming, F: Appender + Drop> Journaled<J, F> {
 
     /// Keeps all that was appended, where some of it is not kept yet, and is refused as [`Journaled::keep`] is.
     pub fn keep_all(&mut self) -> Result<(), Refusal>
+        ensures policy { self.new.policy ≡ self.old.policy }
         ensures handed { self.new.handed ≡ self.old.handed }
         ensures last { self.new.last ≡ self.old.last }
         ensures pending { self.new.pending ≡ self.old.pending }
@@ -250,6 +316,7 @@ impl<J: Naming, F: Appender + Drop> Journaled<J, F> {
         key: &[u8; KEY_BYTES],
     ) -> Result<(), Refusal>
         requires { IsFresh (F.appended device) }
+        ensures policy { self.new.policy ≡ self.old.policy }
         ensures handed { self.new.handed ≡ self.old.handed }
         ensures last { self.new.last ≡ self.old.last }
         ensures pending { self.new.pending ≡ self.old.pending }
@@ -287,6 +354,7 @@ impl<J: Naming, F: Appender + Drop> Journaled<J, F> {
         let mut kept = self;
         let appended = kept.append_pending(alloc);
         let Journaled {
+            policy,
             handed,
             pending: _,
             journal,
@@ -298,7 +366,7 @@ impl<J: Naming, F: Appender + Drop> Journaled<J, F> {
         match batch {
             Err(refusal) => (session, journal, Err(refusal)),
             Ok(batch) => {
-                let (journal, ended) = Journaled::ended(alloc, handed, batch, journal);
+                let (journal, ended) = Journaled::ended(alloc, policy, handed, batch, journal);
                 (session, journal, ended)
             }
         }
@@ -307,15 +375,18 @@ impl<J: Naming, F: Appender + Drop> Journaled<J, F> {
     /// The journal with a last batch, and kept.
     fn ended(
         alloc: Global,
+        policy: Policy,
         handed: Handed<J>,
         rest: Vec<Change>,
         journal: Journal<F>,
     ) -> (Journal<F>, Result<(), Refusal>)
         requires { IsKept J.first (record {
+          policy = policy;
           handed = handed.changes;
           last = handed.last;
           pending = rest.items;
           journal = journal;
+          assured = handed.assured;
         }) }
         ensures words { OnOk result.1 (result.0.words ≡ applied handed.changes J.first.broker.words.kept) }
         ensures kept { OnOk result.1 (result.0.kept ≡ result.0.size) }
@@ -323,6 +394,7 @@ impl<J: Naming, F: Appender + Drop> Journaled<J, F> {
         ensures ends { OnOk result.1 (EndsAtMomentOf J.first handed.last result.0) }
     {
         let mut kept = Journaled {
+            policy,
             handed,
             pending: rest,
             journal,
@@ -334,6 +406,7 @@ impl<J: Naming, F: Appender + Drop> Journaled<J, F> {
     /// Appends what is pending, and keeps all.
     fn append_and_keep(&mut self, alloc: Global) -> Result<(), Refusal>
         ensures all { OnOk result (self.new.pending ≡ []) }
+        ensures policy { self.new.policy ≡ self.old.policy }
         ensures handed { self.new.handed ≡ self.old.handed }
         ensures last { self.new.last ≡ self.old.last }
         ensures words { OnOk result

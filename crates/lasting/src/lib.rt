@@ -12,7 +12,7 @@ mod shared_journal;
 
 pub use beginning::first_words;
 pub use journaled::Journaled;
-pub use laws::{firsts_are_moments, stops_leave_a_moment};
+pub use laws::{firsts_are_moments, stops_leave_a_moment, stops_leave_what_was_assured};
 pub use policy::Policy;
 pub use settler::Settler;
 pub use shared_journal::SharedJournal;

@@ -1,13 +1,12 @@
 //! The journal of a shared session where its storage has it.
 
-ghost use Rattle.std.specs.Prelude.{◌≡◌, ◌<◌, ◌≤◌, [], false, is_err, length, true, IfOk, OnErr, OnOk};
+ghost use Rattle.std.specs.Prelude.{◌≡◌, ◌++◌, ◌∷◌, [], false, is_err, true, IfOk, OnErr, OnOk};
 ghost use Rattle.persist.specs.Noted.{applied};
-ghost use Rattle.lasting.specs.Lasting.{EndsAtMomentOf, HasMoments};
-ghost use Rattle.lasting.specs.Settling.{HasSettled, IsKeptBy};
+ghost use Rattle.lasting.specs.Lasting.{Assures, EndsAtMomentOf, HasMoments, IsKeptBy};
+ghost use Rattle.lasting.specs.Settling.{HasSettled};
 ghost use Rattle.session.specs.Keeping.{SessionGoesOn};
 ghost use Rattle.session.specs.Promises.{KeepsNumbers};
-ghost use Rattle.witness.specs.Rule.{Begins};
-ghost use Rattle.workers.specs.Moments.{IsMomentOf};
+ghost use Rattle.workers.specs.Moments.{GoesOnLater, IsMomentOf};
 ghost use Rattle.workers.specs.Seats.{AreAllInOrder, AreSeatsRecorded};
 
 use crate::journaled::Journaled;
@@ -19,7 +18,7 @@ use std::alloc::Global;
 use std::marker::Model;
 use std::sync::Wait;
 use words::Refusal;
-use workers::{Handed, Marked, Naming, Seat, Shared};
+use workers::{Assured, Handed, Marked, Naming, Seat, Shared};
 
 /// How many bytes of frames a journal has at least when it is compacted.
 pub const LEAST_FRAMES: u64 = 0x100_0000;
@@ -32,7 +31,6 @@ pub const FRAMES_BY_HEAD: u64 = 4;
 #[derive(Drop)]
 pub struct Settler<J: Naming, F: Appender + Drop> {
     journaled: Journaled<J, F>,
-    policy: Policy,
     /// The journal is compacted once it has more bytes than these.
     enough: u64,
     failed: bool,
@@ -43,7 +41,7 @@ impl<J: Naming, F: Appender + Drop> Model for Settler<J, F> {
 
     ghost Value = { Settled };
 
-    ghost view = { λ s. record { kept = s.journaled; policy = s.policy; failed = s.failed } };
+    ghost view = { λ s. record { kept = s.journaled; policy = s.journaled.policy; failed = s.failed } };
 }
 
 /// How many bytes are enough for a journal that has so many now.
@@ -69,6 +67,7 @@ impl<J: Naming, F: Appender + Drop> Settler<J, F> {
     ) -> Result<Self, Refusal>
         requires words { words.items ≡ applied handed.changes J.first.broker.words.kept }
         requires moment { IsMomentOf J.first handed.last words.items }
+        requires nothing { handed.assured ≡ [] }
         ensures handed { IfOk result (λ s. s.kept.handed ≡ handed.changes) }
         ensures all { IfOk result (λ s. s.kept.pending ≡ []) }
         ensures policy { IfOk result (λ s. s.policy ≡ policy) }
@@ -78,14 +77,13 @@ impl<J: Naming, F: Appender + Drop> Settler<J, F> {
             return Err(Refusal::WriteFailed);
         };
         let key = made.1;
-        let journaled = Journaled::begin(alloc, handed, made.0, &key, words)?;
+        let journaled = Journaled::begin(alloc, policy, handed, made.0, &key, words)?;
         if storage.replace().is_err() {
             return Err(Refusal::WriteFailed);
         }
         let enough = enough_behind(journaled.journal().size());
         Ok(Settler {
             journaled,
-            policy,
             enough,
             failed: false,
         })
@@ -95,7 +93,7 @@ impl<J: Naming, F: Appender + Drop> Settler<J, F> {
     pub fn policy(&self) -> Policy
         ensures { result ≡ self.now.policy }
     {
-        self.policy
+        self.journaled.policy()
     }
 
     /// Whether it has failed for good. Then nothing is settled any more.
@@ -107,9 +105,9 @@ impl<J: Naming, F: Appender + Drop> Settler<J, F> {
 
     /// Whether what the policy is to have kept is kept.
     fn is_kept_by_policy(&self) -> bool
-        ensures { result ≡ true → IsKeptBy self.now.policy self.now }
+        ensures { result ≡ true → IsKeptBy self.now.policy self.now.kept.journal }
     {
-        match self.policy {
+        match self.journaled.policy() {
             Policy::Always => self.journaled.keeps_all(),
             Policy::EachSecond | Policy::Never => true,
         }
@@ -124,19 +122,6 @@ impl<J: Naming, F: Appender + Drop> Settler<J, F> {
             && self.journaled.has_all()
             && !self.journaled.journal().has_failed()
             && self.is_kept_by_policy()
-    }
-
-    /// How many changes are settled, where every one is that was handed on; else 0.
-    pub fn settled(&self) -> u64
-        ensures part { result ≤ length self.now.kept.handed }
-        ensures settled { 0 < result → HasSettled J.first self.now }
-        ensures going { 0 < result → self.now.failed ≡ false }
-    {
-        if self.has_settled() {
-            self.journaled.count()
-        } else {
-            0
-        }
     }
 
     /// The journal goes on as its present words on a fresh device, which takes the place of the one in use. Where it
@@ -171,13 +156,13 @@ impl<J: Naming, F: Appender + Drop> Settler<J, F> {
         ensures words { self.new.kept.journal.words ≡ self.old.kept.journal.words }
         ensures policy { self.new.policy ≡ self.old.policy }
         ensures failed { self.new.failed ≡ self.old.failed }
-        ensures kept { OnOk result (IsKeptBy self.new.policy self.new) }
+        ensures kept { OnOk result (IsKeptBy self.new.policy self.new.kept.journal) }
         ensures going { OnOk result (self.new.kept.journal.failed ≡ false) }
     {
         if self.journaled.journal().has_failed() {
             return Err(Refusal::WriteFailed);
         }
-        match self.policy {
+        match self.journaled.policy() {
             Policy::Always => self.journaled.keep_all(),
             Policy::EachSecond | Policy::Never => Ok(()),
         }
@@ -240,14 +225,12 @@ impl<J: Naming, F: Appender + Drop> Settler<J, F> {
     {
         let Settler {
             journaled,
-            policy,
             enough,
             failed,
         } = self;
         let (journaled, appended) = journaled.settle(rt, alloc, shared);
         let mut settler = Settler {
             journaled,
-            policy,
             enough,
             failed,
         };
@@ -308,34 +291,55 @@ impl<J: Naming, F: Appender + Drop> Settler<J, F> {
         (settler, settled)
     }
 
-    /// Whether all changes that were marked were handed on. All comes back as it was.
+    /// Whether the session of the last hand-on goes on from the marked one. All comes back as it was.
     fn has_handed<R: Wait>(
         self,
         rt: &R,
         shared: &Shared<J>,
         marked: Marked<J>,
     ) -> (Self, Marked<J>, bool)
-        ensures handed { result.2 ≡ true → Begins marked self.kept.handed }
+        ensures handed { result.2 ≡ true → GoesOnLater marked self.kept.last }
         ensures same { result.0 ≡ self }
         ensures mark { result.1 ≡ marked }
     {
         let Settler {
             journaled,
-            policy,
             enough,
             failed,
         } = self;
         let (journaled, marked, has) = journaled.has_handed(rt, shared, marked);
         let settler = Settler {
             journaled,
-            policy,
             enough,
             failed,
         };
         (settler, marked, has)
     }
 
-    /// Settles, and then says whether all was handed on that was marked, as it was where it had been noted before.
+    /// Assures a session from which that of the last hand-on goes on, where all is settled.
+    fn assure(self, marked: &Marked<J>) -> (Self, Assured<J>)
+        requires settled { HasSettled J.first self }
+        requires later { GoesOnLater marked.now self.kept.last }
+        ensures kept { result.0.kept ≡ record self.kept { assured = self.kept.assured ++ marked.now ∷ [] } }
+        ensures policy { result.0.policy ≡ self.policy }
+        ensures failed { result.0.failed ≡ self.failed }
+        ensures assured { result.1 ≡ marked.now }
+    {
+        let Settler {
+            journaled,
+            enough,
+            failed,
+        } = self;
+        let (journaled, assured) = journaled.assure(marked);
+        let settler = Settler {
+            journaled,
+            enough,
+            failed,
+        };
+        (settler, assured)
+    }
+
+    /// Settles, and then assures the marked session, from which that of the hand-on goes on: the mark was made before.
     fn settle_marked<R: Wait, S: Storage<F>>(
         self,
         rt: &R,
@@ -343,24 +347,25 @@ impl<J: Naming, F: Appender + Drop> Settler<J, F> {
         shared: &Shared<J>,
         storage: &S,
         marked: Marked<J>,
-    ) -> (Self, Marked<J>, Result<(), Failed>)
-        ensures settled { OnOk result.2 (HasSettled J.first result.0) }
-        ensures marked { OnOk result.2 (Begins marked result.0.kept.handed) }
+    ) -> (Self, Result<Assured<J>, Failed>)
+        ensures settled { OnOk result.1 (HasSettled J.first result.0) }
+        ensures marked { OnOk result.1 (GoesOnLater marked result.0.kept.last) }
+        ensures assured { IfOk result.1 (λ assured. assured ≡ marked) }
         ensures policy { result.0.policy ≡ self.policy }
-        ensures mark { result.1 ≡ marked }
-        ensures over { self.failed ≡ true → (result.0 ≡ self) × (is_err result.2 ≡ true) }
+        ensures over { self.failed ≡ true → (result.0 ≡ self) × (is_err result.1 ≡ true) }
     {
         let (settler, settled) = self.settle(rt, alloc, shared, storage);
         let (settler, marked, has) = settler.has_handed(rt, shared, marked);
-        if has {
-            (settler, marked, settled)
-        } else {
-            (settler, marked, Err(Failed))
+        if settled.is_err() || !has {
+            return (settler, Err(Failed));
         }
+        let (settler, assured) = settler.assure(&marked);
+        (settler, Ok(assured))
     }
 
-    /// Settles as [`Settler::settle`] does, where not all that was marked is settled. At Ok the journal has all changes
-    /// that were marked: those that were handed on go on from them.
+    /// Settles as [`Settler::settle`] does, where not all that was marked is settled. At Ok the session of the last
+    /// hand-on, which the journal ends at, goes on from the marked one, and the token says for good that the journal
+    /// assures that one ([`Settler::hears`]).
     pub fn settle_up_to<R: Wait, S: Storage<F>>(
         self,
         rt: &R,
@@ -368,21 +373,43 @@ impl<J: Naming, F: Appender + Drop> Settler<J, F> {
         shared: &Shared<J>,
         storage: &S,
         marked: Marked<J>,
-    ) -> (Self, Marked<J>, Result<(), Failed>)
-        ensures settled { OnOk result.2 (HasSettled J.first result.0) }
-        ensures marked { OnOk result.2 (Begins marked result.0.kept.handed) }
+    ) -> (Self, Result<Assured<J>, Failed>)
+        ensures settled { OnOk result.1 (HasSettled J.first result.0) }
+        ensures marked { OnOk result.1 (GoesOnLater marked result.0.kept.last) }
+        ensures assured { IfOk result.1 (λ assured. assured ≡ marked) }
         ensures policy { result.0.policy ≡ self.policy }
-        ensures mark { result.1 ≡ marked }
-        ensures over { self.failed ≡ true → (result.0 ≡ self) × (is_err result.2 ≡ true) }
+        ensures over { self.failed ≡ true → (result.0 ≡ self) × (is_err result.1 ≡ true) }
     {
         if !self.has_settled() {
             return self.settle_marked(rt, alloc, shared, storage, marked);
         }
         let (settler, marked, has) = self.has_handed(rt, shared, marked);
-        if has {
-            return (settler, marked, Ok(()));
+        if !has {
+            return settler.settle_marked(rt, alloc, shared, storage, marked);
         }
-        settler.settle_marked(rt, alloc, shared, storage, marked)
+        let (settler, assured) = settler.assure(&marked);
+        (settler, Ok(assured))
+    }
+
+    /// Hears a token of this journal: it assures the token's session. Both come back as they were. It is said of the device
+    /// in use: where the journal has failed for good, that may not be the one in its place.
+    pub fn hears(self, assured: Assured<J>) -> (Self, Assured<J>)
+        ensures sure { Assures J.first self.policy assured self.kept.journal }
+        ensures settler { result.0 ≡ self }
+        ensures assured { result.1 ≡ assured }
+    {
+        let Settler {
+            journaled,
+            enough,
+            failed,
+        } = self;
+        let (journaled, assured) = journaled.hears(assured);
+        let settler = Settler {
+            journaled,
+            enough,
+            failed,
+        };
+        (settler, assured)
     }
 
     /// Keeps all that was appended, whatever the policy is. Where the device fails, it goes on as
@@ -392,7 +419,7 @@ impl<J: Naming, F: Appender + Drop> Settler<J, F> {
         ensures pending { self.new.kept.pending ≡ self.old.kept.pending }
         ensures words { self.new.kept.journal.words ≡ self.old.kept.journal.words }
         ensures policy { self.new.policy ≡ self.old.policy }
-        ensures kept { OnOk result (IsKeptBy Policy.Always self.new) }
+        ensures kept { OnOk result (IsKeptBy Policy.Always self.new.kept.journal) }
         ensures over { self.old.failed ≡ true → (self.new ≡ self.old) × (is_err result ≡ true) }
     {
         if self.failed {

@@ -1,21 +1,17 @@
 //! The journal of a shared session, for the threads that share it.
 
-ghost use Rattle.std.specs.Prelude.{◌≡◌, IfSome, IsSome, OnOk};
-ghost use Rattle.lasting.specs.Settling.{HasSettled};
-ghost use Rattle.witness.specs.Rule.{Begins};
+ghost use Rattle.std.specs.Prelude.{◌≡◌, IfOk, IsSome};
 
 use crate::policy::Policy;
 use crate::settler::Settler;
 use devices::Failed;
 use journal_file::{Appender, Storage};
-use settling::Settles;
 use std::alloc::Global;
-use std::sync::atomic::{AtomicBool, AtomicU64, Ordering};
+use std::sync::atomic::{AtomicBool, Ordering};
 use std::sync::{Mutex, Wait};
 use std::thread::sleep;
 use std::time::{Clock, Duration};
-use witness::is_among;
-use workers::{Marked, Naming, Shared};
+use workers::{Assured, Marked, Naming, Shared};
 
 /// How long the thread that keeps each second rests at once: a stop waits for it no longer.
 const NAP_MILLIS: u64 = 50;
@@ -48,30 +44,21 @@ impl<J: Naming, F: Appender + Drop> Place<J, F> {
         }
     }
 
-    /// How many changes are settled, as [`Settler::settled`] says.
-    fn settled(&self) -> u64 {
-        match &self.settler {
-            Some(settler) => settler.settled(),
-            None => unreachable!(),
-        }
-    }
-
     /// It settles up to a mark.
-    fn settle<R: Wait, S: Storage<F>>(
+    fn settle_up_to<R: Wait, S: Storage<F>>(
         &mut self,
         rt: &R,
         alloc: Global,
         shared: &Shared<J>,
         storage: &S,
         marked: Marked<J>,
-    ) -> Result<(), Failed>
-        ensures settled { OnOk result (IfSome self.new.settler (λ s. HasSettled J.first s)) }
-        ensures marked { OnOk result (IfSome self.new.settler (λ s. Begins marked s.kept.handed)) }
+    ) -> Result<Assured<J>, Failed>
+        ensures { IfOk result (λ assured. assured ≡ marked) }
     {
         let Some(settler) = self.settler.take() else {
             unreachable!()
         };
-        let (settler, _marked, settled) = settler.settle_up_to(rt, alloc, shared, storage, marked);
+        let (settler, settled) = settler.settle_up_to(rt, alloc, shared, storage, marked);
         self.settler = Some(settler);
         settled
     }
@@ -96,8 +83,6 @@ pub struct SharedJournal<'a, J: Naming, F: Appender + Drop, S: Storage<F>> {
     storage: &'a S,
     policy: Policy,
     failed: AtomicBool,
-    /// How many changes were settled when the lock of the place was held last.
-    settled: AtomicU64,
     /// This lock is taken before the session's. It is held while the device works, so that a thread sleeps for it.
     place: Mutex<Place<J, F>>,
 }
@@ -110,7 +95,6 @@ impl<'a, J: Naming, F: Appender + Drop, S: Storage<F>> SharedJournal<'a, J, F, S
     {
         let policy = settler.policy();
         let failed = AtomicBool::new(settler.has_failed());
-        let settled = AtomicU64::new(settler.settled());
         let place = Mutex::new(Place {
             settler: Some(settler),
         });
@@ -120,7 +104,6 @@ impl<'a, J: Naming, F: Appender + Drop, S: Storage<F>> SharedJournal<'a, J, F, S
             storage,
             policy,
             failed,
-            settled,
             place,
         }
     }
@@ -139,17 +122,36 @@ impl<'a, J: Naming, F: Appender + Drop, S: Storage<F>> SharedJournal<'a, J, F, S
         self.policy
     }
 
-    /// The settler, once nobody shares it.
+    /// The settler, once nobody shares it. That its policy is the one that was given no clause says.
     pub fn into_settler(self) -> Settler<J, F> {
         self.place.into_inner().into_settler()
     }
 
-    /// Says to those who do not have the lock what is settled, and whether the journal has failed for good.
+    /// Whether it has failed for good. Then nothing is settled any more.
+    pub fn has_failed(&self) -> bool {
+        self.failed.load(Ordering::SeqCst)
+    }
+
+    /// Says to those who do not have the lock whether the journal has failed for good.
     fn note(&self, place: &Place<J, F>) {
-        self.settled.store(place.settled(), Ordering::SeqCst);
         if place.has_failed() {
             self.failed.store(true, Ordering::SeqCst);
         }
+    }
+
+    /// Settles as [`Settler::settle_up_to`] does. Where others have settled so much, as they do while it waits for the
+    /// lock, it neither appends nor keeps anything. Whoever has the settler back learns what the token says
+    /// ([`Settler::hears`]).
+    pub fn settle_up_to<R: Wait>(&self, rt: &R, marked: Marked<J>) -> Result<Assured<J>, Failed>
+        ensures { IfOk result (λ assured. assured ≡ marked) }
+    {
+        if self.has_failed() {
+            return Err(Failed);
+        }
+        let mut place = self.place.lock(rt);
+        let settled = place.settle_up_to(rt, self.alloc, self.shared, self.storage, marked);
+        self.note(&place);
+        settled
     }
 
     /// Keeps all that was appended, as [`Settler::keep_up`] does.
@@ -162,7 +164,7 @@ impl<'a, J: Naming, F: Appender + Drop, S: Storage<F>> SharedJournal<'a, J, F, S
 
     /// Settles, and keeps all that was appended, whatever the policy is.
     pub fn settle_and_keep<R: Wait>(&self, rt: &R) -> Result<(), Failed> {
-        self.settle(rt)?;
+        let _assured = self.settle_up_to(rt, self.shared.mark_now(rt))?;
         self.keep_up(rt)
     }
 
@@ -189,30 +191,4 @@ fn rests_a_second<R: Clock>(rt: &R, ended: &AtomicBool) -> bool {
         sleep(rt, Duration::from_millis(NAP_MILLIS));
     }
     true
-}
-
-impl<J: Naming, F: Appender + Drop, S: Storage<F>> Settles for SharedJournal<'_, J, F, S> {
-    /// Settles as [`Settler::settle_up_to`] does, up to a mark of all that was noted before. Where others have settled so
-    /// much, as they do while it waits for the lock, it neither appends nor keeps anything. Where that is known before,
-    /// it takes no lock but the session's.
-    fn settle<R: Wait>(&self, rt: &R) -> Result<(), Failed> {
-        if self.has_failed() {
-            return Err(Failed);
-        }
-        let Some(marked) = self.shared.mark_noted(rt) else {
-            // Nothing is handed on of a session whose changes are not noted.
-            return Err(Failed);
-        };
-        if is_among(marked.count(), self.settled.load(Ordering::SeqCst)) {
-            return Ok(());
-        }
-        let mut place = self.place.lock(rt);
-        let settled = place.settle(rt, self.alloc, self.shared, self.storage, marked);
-        self.note(&place);
-        settled
-    }
-
-    fn has_failed(&self) -> bool {
-        self.failed.load(Ordering::SeqCst)
-    }
 }

@@ -1,8 +1,10 @@
 -- One request more leads on.
 use Rattle.std.proofs.Common.{◌≡◌, List, [], ◌∷◌, ◌++◌, refl, sym, ap, subst, ◌∙◌}
+use Rattle.chronicle.specs.Chronicled.{Chronicled, entries}
 use Rattle.wire.specs.declared.answer.Answer.{Answer}
 use Rattle.wire.specs.declared.request.Request.{Request}
 use Rattle.session.specs.Sessions.{Sessioned}
+use Rattle.desk.specs.Serving.{AreAnswered}
 use Rattle.owning.specs.Answers.{IsAnswered}
 use Rattle.session.specs.Promises.{KeepsNumbers}
 use Rattle.owning.specs.Serving.{GoesOnRight, IsOwned, Leads}
@@ -25,15 +27,13 @@ leads_more first now new old served request noted answer leads same is made =
     (leads_on first now new old request answer leads made)
 
 -- a desk that has served nothing
-pub owned_first : (first session : Sessioned) (served : List (Request × Answer)) → session ≡ first → served ≡ []
-    → KeepsNumbers session → IsOwned first (record { session = session; served = served })
-owned_first first session served is none keeps =
-    subst (λ (l : List (Request × Answer)). IsOwned first (record { session = session; served = l })) (sym none)
-    (record {
-      leads = is;
-      answered = record {
-        fits = λ k request answer at. absurd (cc (at));
-        clients_are = λ k request answer at. absurd (cc (at));
-      };
-      goes_on = subst (λ (s : Sessioned). GoesOnRight s session) is (stays_right session keeps);
-    })
+pub owned_first : (first session : Sessioned) (served : Chronicled (Request × Answer)) → session ≡ first
+    → entries served ≡ [] → KeepsNumbers session → IsOwned first (record { session = session; served = served })
+owned_first first session served is none keeps = record {
+  leads = subst (λ (l : List (Request × Answer)). Leads first l session) (sym none) is;
+  answered = subst (AreAnswered first.broker.counts.clients) (sym none) (record {
+    fits = λ k request answer at. absurd (cc (at));
+    clients_are = λ k request answer at. absurd (cc (at));
+  });
+  goes_on = subst (λ (s : Sessioned). GoesOnRight s session) is (stays_right session keeps);
+}

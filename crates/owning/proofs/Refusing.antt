@@ -1,17 +1,16 @@
 -- Which refusals the calls of a session get.
-use Rattle.std.proofs.Common.{◌+◌, ℕ, true, false, List, Option, Some, None, Result, Ok, Err, refl, sym, subst, slice_get}
+use Rattle.std.proofs.Common.{◌+◌, ℕ, true, false, Option, Some, None, Result, Ok, Err, refl, slice_get}
 use Rattle.std.specs.Prelude.{◌==◌, Bool, IfErr, IsTrue, is_some, nat_lt, slice_index, if◌then◌else◌}
 use Rattle.words.specs.declared.call.Client.{Client}
 use Rattle.words.specs.declared.call.Kind.{Kind}
 use Rattle.words.specs.declared.call.Kind.TheVariants.{Durable as durable_kind, Log as log_kind}
-use Rattle.words.specs.declared.call.Reply.{Reply}
 use Rattle.words.specs.declared.refusal.Refusal.{Refusal}
 use Rattle.words.specs.declared.refusal.Refusal.TheVariants.{Busy, Gap, NoClient, NoMemory}
 use Rattle.words.specs.declared.refusal.Refusal.TheVariants.{NoQueue, NoRoom, NotReady, Old, StaleNumber, WrongKind}
 use Rattle.words.specs.declared.told.Outcome.{Outcome}
 use Rattle.words.specs.declared.told.Outcome.TheVariants.{NotTaken, Taken}
 use Rattle.words.specs.declared.told.Verdict.{Verdict}
-use Rattle.interleave.specs.Calls.{idle_result, is_no_memory}
+use Rattle.interleave.specs.Calls.{idle_result}
 use Rattle.interleave.specs.Queue.{number_check}
 use Rattle.interleave.specs.State.{State, is_down, number_of_idle, number_to_start, start_result, start_result_with, used_by}
 use Rattle.interleave.specs.Verdicts.{number_under_way}
@@ -23,7 +22,7 @@ use Rattle.protocol.specs.declared.UnderWay.{UnderWay}
 use Rattle.named.specs.Brokers.{is_down as is_broker_down}
 use Rattle.named.specs.Slots.{answered}
 use Rattle.session.specs.Numbers.{by_last, by_number, by_outcome, missed}
-use Rattle.session.specs.Requests.{IsBegunBy, answer_to, as_begun, is_kind, queue_admission, request_admission}
+use Rattle.session.specs.Requests.{answer_to, as_begun, is_kind, queue_admission, request_admission}
 use Rattle.session.specs.Sessions.{Sessioned, kept_at}
 use Rattle.workers.specs.Refusals.{is_call_refusal}
 

@@ -1,5 +1,6 @@
 -- What a desk that has its session for itself has served.
 use Rattle.std.specs.Prelude.{◌≡◌, List, [], ◌∷◌}
+use Rattle.chronicle.specs.Chronicled.{Chronicled, entries}
 use Rattle.wire.specs.declared.answer.Answer.{Answer}
 use Rattle.wire.specs.declared.request.Request.{Request}
 use Rattle.named.specs.GoingOn.{BrokerGoesOn}
@@ -21,13 +22,13 @@ pub record GoesOnRight (old new : Sessioned) : Type 0 where
   pub queues : BrokerGoesOn old.broker new.broker
   pub promises : KeepsNumbers new
 
--- a session, and the requests that were served with it
+-- a session, and the requests that were served with it, of which some are settled
 pub record Owned : Type 0 where
   pub session : Sessioned
-  pub served : List (Request × Answer)
+  pub served : Chronicled (Request × Answer)
 
 -- so it stands with a desk that began with this session
 pub record IsOwned (first : Sessioned) (desk : Owned) : Type 0 where
-  pub leads : Leads first desk.served desk.session
-  pub answered : AreAnswered first.broker.counts.clients desk.served
+  pub leads : Leads first (entries desk.served) desk.session
+  pub answered : AreAnswered first.broker.counts.clients (entries desk.served)
   pub goes_on : GoesOnRight first desk.session

@@ -1,6 +1,7 @@
 //! The desk.
 
-ghost use Rattle.std.specs.Prelude.{◌≡◌, [], IfOk};
+ghost use Rattle.std.specs.Prelude.{◌≡◌, [], refl, IfOk};
+ghost use Rattle.chronicle.specs.Chronicled.{entries};
 ghost use Rattle.owning.specs.Serving.{GoesOnRight, Leads};
 ghost use Rattle.desk.specs.Serving.{AreAnswered};
 ghost use Rattle.session.specs.Promises.{KeepsNumbers};
@@ -8,6 +9,7 @@ ghost use Rattle.session.specs.Promises.{KeepsNumbers};
 use crate::answering::answer_to;
 use crate::beginning::Beginning;
 use chronicle::Chronicle;
+use devices::Failed;
 use engine::Desk;
 use events::copied;
 use session::Session;
@@ -20,7 +22,7 @@ use wire::{Answer, Request};
 #[derive(Drop)]
 pub struct OwningDesk<J: Beginning> {
     session: Session,
-    /// The requests that were made, with their answers, in order.
+    /// The requests that were made, with their answers, in order; and those of them that are settled.
     served: Chronicle<(Request, Answer)>,
     of: PhantomData<J>,
 }
@@ -41,7 +43,7 @@ impl<J: Beginning> OwningDesk<J> {
         requires name { session ≡ J.first }
         requires promises { KeepsNumbers session }
         ensures session { IfOk result (λ desk. desk.session ≡ session) }
-        ensures served { IfOk result (λ desk. desk.served ≡ []) }
+        ensures served { IfOk result (λ desk. entries desk.served ≡ []) }
     {
         let served = Chronicle::begin(alloc)?;
         Ok(OwningDesk {
@@ -54,20 +56,32 @@ impl<J: Beginning> OwningDesk<J> {
     /// The session as what was served left it.
     pub fn into_session(self) -> Session
         ensures session { result ≡ self.session }
-        ensures leads { Leads J.first self.served result }
-        ensures answered { AreAnswered J.first.broker.counts.clients self.served }
+        ensures leads { Leads J.first (entries self.served) result }
+        ensures answered { AreAnswered J.first.broker.counts.clients (entries self.served) }
         ensures goes_on { GoesOnRight J.first result }
     {
         self.session
     }
 }
 
+/// Nothing of it is promised to last longer than it does itself, so it settles always.
 impl<J: Beginning> Desk for OwningDesk<J> {
-    ghost served = { λ desk. desk.served };
+    ghost served = { λ desk. entries desk.served };
+
+    ghost settled = { λ desk. desk.served.settled };
+
+    ghost failures = { λ _. 0 };
 
     fn answer<R: Wait>(&mut self, rt: &R, request: Request) -> Answer {
         let made = (copied(&request), answer_to(&mut self.session, request));
         self.served.note(&made);
         made.1
     }
+
+    fn settle<R: Wait>(&mut self, _rt: &R) -> Result<(), Failed> {
+        self.served.settle();
+        Ok(())
+    }
+
+    ghost begins = { λ desk. (desk.served.unsettled, refl) };
 }

@@ -2,6 +2,7 @@
 use Rattle.std.proofs.Common.{◌≡◌, ◌<◌, ◌≤◌, ℕ, true, false, List, Option, Some, Result, Ok, is_some, nat_lt, take, sym, ap, subst, ◌∙◌, arith}
 use Rattle.std.proofs.lemmas.Bool.{lt-ltb}
 use Rattle.words.specs.declared.call.Client.{Client}
+use Rattle.words.specs.declared.call.Reply.{Reply}
 use Rattle.words.specs.declared.limits.TheConstants.{MAX_CLIENTS}
 use Rattle.words.specs.declared.refusal.Refusal.{Refusal}
 use Rattle.words.specs.declared.told.Told.{Told}
@@ -19,15 +20,18 @@ use Rattle.named.specs.Slots.{answered}
 use Rattle.named.specs.declared.recovery.BrokerRecovery.{BrokerRecovery}
 use Rattle.session.specs.Keeping.{IsSettled, SessionGoesOn, told_when_asked, verdict_heard}
 use Rattle.session.specs.Promises.{KeepsNumbers}
-use Rattle.session.specs.Sessions.{IsLogClient, Sessioned}
+use Rattle.session.specs.Sessions.{IsLogClient, Sessioned, kept_at}
 use Rattle.session.proofs.Facts.{holds_there, open_below}
 use Rattle.workers.specs.Moments.{IsMomentOf}
 use Rattle.named.specs.KeptQueues.{IsKeptQueue}
 use Rattle.workers.proofs.Facts.{session_further}
-use Rattle.lasting.specs.Lasting.{ReadsMoment}
+use Rattle.journal_file.specs.OnDevice.{OnDevice}
+use Rattle.lasting.specs.Lasting.{HasMoments, ReadsLater, ReadsMoment}
+use Rattle.desk.specs.Telling.{IsReplied, RanNumbered}
+use Rattle.desk.specs.declared.calls.Asked.{Asked}
 use Rattle.server.specs.Image.{IsOpenedOver}
 use Rattle.server.specs.Opening.{IsOpened, IsQueueOpened}
-use Rattle.server.specs.Restarting.{AreSettledBy, GoesOnFrom, IsRestartedFrom, LivesOn}
+use Rattle.server.specs.Restarting.{words_read, AreSettledBy, GoesOnFrom, IsRestartedFrom, LivesOn}
 use Rattle.server.specs.Restarting.LivesOn.{restarted, within}
 use Rattle.named.proofs.Facts.{kept_queue}
 
@@ -132,3 +136,22 @@ lives_go_on earlier now (within on) = on.numbers
 lives_go_on earlier now (restarted {last = last} {next = next} before restart on) =
     session_further earlier last now (lives_go_on earlier last before)
     (session_further last next now (restart_goes_on last next restart) on.numbers)
+
+-- a reply that was told, and whose number was settled then, is told still
+pub told_still : (first now : Sessioned) (client : Client) (asked : Asked) (reply : Reply) (number : ℕ)
+    (replied : IsReplied first now client asked reply)
+    (is : RanNumbered replied.session client replied.has.entry number) (j : OnDevice) (has : HasMoments first j)
+    (bytes : List ℕ) (left : ReadsLater first now j has bytes) (b : Brokered) → IsOpened (words_read left) b
+    → IsSettled (kept_at replied.session replied.has.entry.queue.0 client) number reply
+    → IsSettled (told_when_asked b replied.has.entry.queue.0 client.0) number reply
+told_still first now client asked reply number replied is j has bytes left b opened settled =
+    let slot : ℕ = replied.has.entry.queue.0 in
+    let last : Sessioned = has.session left.reads.whole in
+    let one : IsLogClient replied.session.broker slot client =
+    record { world = is.world; here = is.here; log = is.log; few = is.few } in
+    let on : SessionGoesOn replied.session last =
+    session_further replied.session now last replied.later.numbers left.later.numbers in
+    let there : IsLogClient last.broker slot client = on.clients slot client one in
+    (goes_on_from first last (words_after (take left.reads.whole has.batches) has.base) b left.reads.moment opened).settled
+    slot there.world client number reply there.here there.log there.few
+    (on.answers slot client number reply one settled)

@@ -3,7 +3,7 @@ use Rattle.std.specs.Prelude.{◌≡◌, ◌⊎◌, ℕ, Bool, List, [], Option}
 use Rattle.words.specs.declared.refusal.Refusal.{Refusal}
 use Rattle.words.specs.declared.refusal.Refusal.TheVariants.{Busy, NoMemory, ReadFailed, WriteFailed}
 use Rattle.engine.specs.Lines.{lines_of}
-use Rattle.engine.specs.Replies.{Served}
+use Rattle.engine.specs.Replies.{Served, output_of}
 use Rattle.engine.specs.Serving.{HasInput, Serves, ServesWhatWasRead}
 use Rattle.named.specs.Brokers.{Brokered}
 use Rattle.session.specs.Sessions.{Sessioned}
@@ -16,12 +16,12 @@ use Rattle.server.specs.Image.{IsImageOf, IsOpenedOver}
 -- written: these requests were made.
 abbrev pub ServesInput : Bool → Option (List ℕ) → (List ℕ → Type 0) → Served → Type 0
 ServesInput whole input IsWritten made =
-    HasInput input (λ text. Serves meaning whole (lines_of text) [] made IsWritten)
+    HasInput input (λ text. Serves meaning whole (lines_of text) [] made (λ replies. IsWritten (output_of replies)))
 
 -- So have the whole lines of what was read of it.
 abbrev pub ServesInputRead : Option (List ℕ) → Option (List ℕ) → (List ℕ → Type 0) → Served → Type 0
 ServesInputRead input left IsWritten made =
-    HasInput input (λ text. ServesWhatWasRead meaning text left [] made IsWritten)
+    HasInput input (λ text. ServesWhatWasRead meaning text left [] made (λ replies. IsWritten (output_of replies)))
 
 -- Requests were made, one after another, of a session over the broker, which came to another one by them; each was
 -- answered as that says, with an answer that it may have. What was settled stays so, no number took effect twice, and

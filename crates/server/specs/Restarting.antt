@@ -3,15 +3,16 @@ use Rattle.std.specs.Prelude.{◌≡◌, ◌<◌, ◌≤◌, ℕ, List, Some, ta
 use Rattle.words.specs.declared.call.Client.{Client}
 use Rattle.words.specs.declared.call.Kind.TheVariants.{Log as log_kind}
 use Rattle.words.specs.declared.call.Reply.{Reply}
-use Rattle.persist.specs.Memory.{words_at_rest}
+use Rattle.persist.specs.Memory.{Words, words_at_rest}
 use Rattle.journal.specs.Frame.{Batch}
 use Rattle.journal.specs.Journal.{words_after}
+use Rattle.journal_file.specs.OnDevice.{OnDevice}
 use Rattle.interleave.specs.State.{State}
 use Rattle.named.specs.Brokers.{Brokered, world_at}
 use Rattle.session.specs.Keeping.{IsSettled, told_when_asked}
 use Rattle.session.specs.Sessions.{Sessioned, kept_at}
 use Rattle.workers.specs.Moments.{GoesOnLater}
-use Rattle.lasting.specs.Lasting.{ReadsMoment}
+use Rattle.lasting.specs.Lasting.{HasMoments, ReadsLater, ReadsMoment}
 use Rattle.server.specs.Image.{IsOpenedOver}
 use Rattle.server.specs.Opening.{IsOpened, IsQueueOpened}
 
@@ -53,3 +54,8 @@ pub data LivesOn (earlier : Sessioned) : Sessioned → Type 0 where
   within : {now : Sessioned} (on : GoesOnLater earlier now) → LivesOn earlier now
   restarted : {last next now : Sessioned} (before : LivesOn earlier last) (restart : IsRestartedFrom last next)
       (on : GoesOnLater next now) → LivesOn earlier now
+
+-- the words that are read of what a stop left
+abbrev pub words_read : {first s : Sessioned} {j : OnDevice} {has : HasMoments first j} {bytes : List ℕ}
+    → ReadsLater first s j has bytes → Words
+words_read {first} {s} {j} {has} left = words_at_rest (words_after (take left.reads.whole has.batches) has.base)

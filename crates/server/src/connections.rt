@@ -1,13 +1,17 @@
 //! Worker threads, each of which serves one connection at a time.
 
+ghost use Rattle.std.specs.Prelude.{◌<◌};
+
 use crate::json_lines::JsonLines;
+use crate::lasting_desk::LastingDesk;
 use crate::stopping::Stopping;
 use crossbeam_channel::Receiver;
 use desk::{BrokerDesk, Seating};
-use devices::{CountedReader, CountedWriter};
+use devices::{CountedReader, CountedWriter, Failed, MAX_FAILURES};
 use engine::{Desk, serve};
+use journal_file::{Appender, Storage};
+use lasting::SharedJournal;
 use log::{Log, warn};
-use settling::{Settles, SettlingWriter};
 use std::alloc::Global;
 use std::net::TcpStream;
 use std::sync::Wait;
@@ -15,47 +19,136 @@ use wire::{Answer, Request};
 use words::Refusal;
 use workers::{Naming, Shared};
 
-/// A broker that connections share, and where they settle what was done.
+/// A broker that connections share.
 #[derive(Drop)]
-pub(crate) struct Sharing<'a, J: Naming, S: Settles> {
+pub(crate) struct Sharing<'a, J: Naming> {
     pub(crate) shared: &'a Shared<J>,
     pub(crate) seats: &'a Seating<J>,
-    pub(crate) settles: &'a S,
-}
-
-/// What the workers share.
-#[derive(Drop)]
-pub(crate) struct Serving<'a, J: Naming, S: Settles> {
-    pub(crate) shared: &'a Shared<J>,
-    pub(crate) seats: &'a Seating<J>,
-    pub(crate) settles: &'a S,
     /// Once it is said, connections that are not served yet will not be.
     pub(crate) stopping: &'a Stopping,
+}
+
+/// What the workers share: the broker, the desks at which connections are served, and the connections.
+#[derive(Drop)]
+pub(crate) struct Serving<'a, J: Naming, S: Desks<J>> {
+    pub(crate) sharing: Sharing<'a, J>,
+    pub(crate) desks: &'a S,
     pub(crate) connections: &'a Receiver<TcpStream>,
 }
 
 /// The desk of a connection, which says where it has accepted a stop.
 #[derive(Drop)]
-struct StoppingDesk<'a, J: Naming> {
-    desk: BrokerDesk<'a, J>,
+struct StoppingDesk<'a, D: Desk> {
+    desk: D,
     stopping: &'a Stopping,
 }
 
-impl<J: Naming> Desk for StoppingDesk<'_, J> {
-    ghost served = { λ desk. desk.desk.served };
+impl<D: Desk> Desk for StoppingDesk<'_, D> {
+    ghost served = { λ desk. D.served desk.desk };
+
+    ghost settled = { λ desk. D.settled desk.desk };
+
+    ghost failures = { λ desk. D.failures desk.desk };
 
     fn answer<R: Wait>(&mut self, rt: &R, request: Request) -> Answer {
         let answer = self.desk.answer(rt, request);
-        if self.desk.is_stopped() {
+        if matches!(answer, Answer::Stopping) {
             // It is said before the reply goes out: a client that has read it is not served on another connection.
             self.stopping.say();
         }
         answer
     }
+
+    fn settle<R: Wait>(&mut self, rt: &R) -> Result<(), Failed> {
+        self.desk.settle(rt)
+    }
+
+    ghost begins = { λ desk. D.begins desk.desk };
+}
+
+/// Serves a connection at a desk, to its end.
+fn serve_at<D: Desk + Drop, R: Wait + Log>(
+    rt: &R,
+    alloc: Global,
+    desk: D,
+    stopping: &Stopping,
+    connection: &TcpStream,
+)
+    requires { D.failures desk < MAX_FAILURES }
+{
+    let mut reader = CountedReader::new(connection);
+    let mut writer = CountedWriter::new(connection);
+    let mut desk = StoppingDesk { desk, stopping };
+    let served = serve::<R, JsonLines, _, _, _>(rt, alloc, &mut reader, &mut writer, &mut desk);
+    if let Err(failure) = served {
+        warn!(rt; "a connection ended: {failure}");
+    }
+}
+
+/// At which desks connections are served.
+pub(crate) trait Desks<J: Naming> {
+    /// Serves a connection at a desk of its own, to its end.
+    fn serve<R: Wait + Log>(
+        &self,
+        rt: &R,
+        alloc: Global,
+        sharing: &Sharing<'_, J>,
+        connection: &TcpStream,
+    );
+
+    /// Whether what is done lasts no more, though it is to.
+    fn has_failed(&self) -> bool;
+}
+
+/// Nothing that is done is promised to last.
+#[derive(Drop)]
+pub(crate) struct InMemory;
+
+/// Says that a connection is closed, since there was no memory for its desk.
+fn unserved<R: Log>(rt: &R) {
+    warn!(rt; "a connection is closed unserved: {}", Refusal::NoMemory);
+}
+
+impl<J: Naming> Desks<J> for InMemory {
+    fn serve<R: Wait + Log>(
+        &self,
+        rt: &R,
+        alloc: Global,
+        sharing: &Sharing<'_, J>,
+        connection: &TcpStream,
+    ) {
+        match BrokerDesk::new(alloc, sharing.shared, sharing.seats) {
+            Ok(desk) => serve_at(rt, alloc, desk, sharing.stopping, connection),
+            Err(_) => unserved(rt),
+        }
+    }
+
+    fn has_failed(&self) -> bool {
+        false
+    }
+}
+
+impl<J: Naming, F: Appender + Drop, S: Storage<F>> Desks<J> for SharedJournal<'_, J, F, S> {
+    fn serve<R: Wait + Log>(
+        &self,
+        rt: &R,
+        alloc: Global,
+        sharing: &Sharing<'_, J>,
+        connection: &TcpStream,
+    ) {
+        match LastingDesk::new(rt, alloc, sharing.seats, self) {
+            Ok(desk) => serve_at(rt, alloc, desk, sharing.stopping, connection),
+            Err(_) => unserved(rt),
+        }
+    }
+
+    fn has_failed(&self) -> bool {
+        SharedJournal::has_failed(self)
+    }
 }
 
 /// Serves a connection to its end, and closes it.
-fn serve_connection<J: Naming, S: Settles, R: Wait + Log>(
+fn serve_connection<J: Naming, S: Desks<J>, R: Wait + Log>(
     rt: &R,
     alloc: Global,
     serving: &Serving<'_, J, S>,
@@ -65,40 +158,28 @@ fn serve_connection<J: Naming, S: Settles, R: Wait + Log>(
     if connection.set_nodelay(true).is_err() {
         warn!(rt; "a connection delays its replies");
     }
-    let Ok(desk) = BrokerDesk::new(alloc, serving.shared, serving.seats) else {
-        warn!(rt; "a connection is closed unserved: {}", Refusal::NoMemory);
-        return;
-    };
-    let mut reader = CountedReader::new(&connection);
-    let mut counted = CountedWriter::new(&connection);
-    let mut writer = SettlingWriter::new(rt, serving.settles, &mut counted);
-    let mut desk = StoppingDesk {
-        desk,
-        stopping: serving.stopping,
-    };
-    let served = serve::<R, JsonLines, _, _, _>(rt, alloc, &mut reader, &mut writer, &mut desk);
-    if let Err(refusal) = served {
-        warn!(rt; "a connection ended: {refusal}");
-    }
+    serving
+        .desks
+        .serve(rt, alloc, &serving.sharing, &connection);
 }
 
 /// Serves one connection after another, until no more are taken. Those that come after an accepted stop are closed
 /// unserved, and so are those that come once what was done lasts no more.
-pub(crate) fn serve_connections<J: Naming, S: Settles, R: Wait + Log>(
+pub(crate) fn serve_connections<J: Naming, S: Desks<J>, R: Wait + Log>(
     rt: &R,
     alloc: Global,
     serving: &Serving<'_, J, S>,
 ) {
     for connection in serving.connections.iter(rt) {
-        if serving.stopping.is_said() {
+        if serving.sharing.stopping.is_said() {
             continue;
         }
         serve_connection(rt, alloc, serving, connection);
-        if serving.settles.has_failed() {
-            serving.stopping.say();
+        if serving.desks.has_failed() {
+            serving.sharing.stopping.say();
         }
-        if serving.stopping.is_said() {
-            serving.stopping.tell(rt);
+        if serving.sharing.stopping.is_said() {
+            serving.sharing.stopping.tell(rt);
         }
     }
 }

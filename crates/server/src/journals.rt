@@ -9,6 +9,7 @@ ghost use Rattle.server.specs.Journaled.{IsLeftAfter};
 ghost use Rattle.server.specs.declared.journals.Unserved.TheVariants.{Refused};
 
 use desk::Seating;
+use engine::Failure;
 use journal_file::{Appender, Journal};
 use lasting::{Policy, Settler, first_words};
 use named::Broker;
@@ -47,6 +48,20 @@ impl From<Refusal> for Unserved {
 
     fn from(refusal: Refusal) -> Unserved {
         Unserved::Refused(refusal)
+    }
+}
+
+impl From<Failure> for Unserved {
+    ghost use Rattle.server.specs.Journaled.{unserved_by};
+
+    ghost from_gives = { λ failure unserved. unserved ≡ unserved_by failure };
+
+    fn from(failure: Failure) -> Unserved {
+        match failure {
+            Failure::ReadFailed => Unserved::Refused(Refusal::ReadFailed),
+            Failure::WriteFailed => Unserved::Refused(Refusal::WriteFailed),
+            Failure::NotKept => Unserved::NotKept,
+        }
     }
 }
 

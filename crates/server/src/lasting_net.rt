@@ -6,7 +6,7 @@ ghost use Rattle.workers.specs.Moments.{IsMomentOf};
 ghost use Rattle.workers.specs.Opening.{IsNameOf};
 ghost use Rattle.server.specs.Journaled.{IsLeftAfter, IsLeftBy};
 
-use crate::connections::Sharing;
+use crate::connections::{Desks, Sharing};
 use crate::journals::{Journaling, Left, Noted, Unserved, begin_noting, journal_left};
 use crate::listening::{Service, seated, work};
 use crate::stopping::Stopping;
@@ -15,7 +15,6 @@ use journal_file::{Appender, Storage};
 use lasting::{Policy, Settler, SharedJournal};
 use log::Log;
 use named::Broker;
-use settling::Settles;
 use std::alloc::{AllocError, Global};
 use std::marker::Brand;
 use std::net::{Net, TcpListener};
@@ -53,7 +52,7 @@ impl<J: Naming, F: Appender + Drop, S: Storage<F>> KeptBeside<J> for SharedJourn
 }
 
 /// Keeps the journal each second until all connections have ended. Where it fails for good, no more are taken.
-fn keep_beside<J: Naming, S: Settles + KeptBeside<J>, R: Wait + Clock>(
+fn keep_beside<J: Naming, S: Desks<J> + KeptBeside<J>, R: Wait + Clock>(
     rt: &R,
     journal: &S,
     stopping: &Stopping,
@@ -68,17 +67,18 @@ fn keep_beside<J: Naming, S: Settles + KeptBeside<J>, R: Wait + Clock>(
 /// Takes connections and serves them, as [`work`] does, and says when all have ended.
 fn work_to_end<
     J: Naming + Send + Sync,
-    S: Settles + Sync,
+    S: Desks<J> + Sync,
     R: Threads + Wait + Net + Clock + Log + Sync,
 >(
     rt: &R,
     alloc: Global,
-    sharing: Sharing<'_, J, S>,
-    stopping: &Stopping,
+    sharing: Sharing<'_, J>,
+    desks: &S,
     workers: u32,
     listener: &TcpListener,
 ) -> Result<(), AllocError> {
-    let worked = work(rt, alloc, sharing, stopping, workers, listener);
+    let stopping = sharing.stopping;
+    let worked = work(rt, alloc, sharing, desks, workers, listener);
     stopping.end();
     worked
 }
@@ -87,7 +87,7 @@ fn work_to_end<
 /// second. At an `Err` there was no memory.
 fn work_beside<
     J: Naming + Send + Sync,
-    S: Settles + KeptBeside<J> + Sync,
+    S: Desks<J> + KeptBeside<J> + Sync,
     R: Threads + Wait + Net + Clock + Log + Sync,
 >(
     rt: &R,
@@ -101,15 +101,15 @@ fn work_beside<
     let sharing = Sharing {
         shared: journal.session(),
         seats,
-        settles: journal,
+        stopping: &stopping,
     };
     if !journal.is_kept_each_second() {
-        return work(rt, alloc, sharing, &stopping, workers, listener);
+        return work(rt, alloc, sharing, journal, workers, listener);
     }
     let ((), worked) = join(
         rt,
         || keep_beside(rt, journal, &stopping),
-        || work_to_end(rt, alloc, sharing, &stopping, workers, listener),
+        || work_to_end(rt, alloc, sharing, journal, workers, listener),
     );
     worked
 }

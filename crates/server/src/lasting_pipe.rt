@@ -8,13 +8,13 @@ ghost use Rattle.server.specs.Journaled.{IsLeftAfter, IsLeftBy};
 
 use crate::journals::{Journaling, Left, Noted, Unserved, begin_noting, journal_left};
 use crate::json_lines::JsonLines;
-use desk::{BrokerDesk, Seating};
+use crate::lasting_desk::LastingDesk;
+use desk::Seating;
 use devices::{MAX_FAILURES, Reader, Writer};
 use engine::serve;
 use journal_file::{Appender, Storage};
 use lasting::{Policy, Settler, SharedJournal};
 use named::Broker;
-use settling::SettlingWriter;
 use std::alloc::Global;
 use std::marker::Brand;
 use std::sync::Wait;
@@ -24,7 +24,7 @@ use std::time::Clock;
 use words::Refusal;
 use workers::Naming;
 
-/// Serves the requests of the reader to the writer, which are settled before each write.
+/// Serves the requests of the reader to the writer, by a desk that settles them in the journal.
 fn serve_settling<J: Naming, F: Appender + Drop, S: Storage<F>, T: Wait, R: Reader, W: Writer>(
     rt: &T,
     alloc: Global,
@@ -32,15 +32,15 @@ fn serve_settling<J: Naming, F: Appender + Drop, S: Storage<F>, T: Wait, R: Read
     journal: &SharedJournal<'_, J, F, S>,
     reader: &mut R,
     writer: &mut W,
-) -> Result<(), Refusal>
+) -> Result<(), Unserved>
     requires reader { R.failures reader.old < MAX_FAILURES }
     requires writer { W.failures writer.old < MAX_FAILURES }
 {
-    let Ok(mut desk) = BrokerDesk::new(alloc, journal.shared(), seats) else {
-        return Err(Refusal::NoMemory);
+    let Ok(mut desk) = LastingDesk::new(rt, alloc, seats, journal) else {
+        return Err(Unserved::Refused(Refusal::NoMemory));
     };
-    let mut settling = SettlingWriter::new(rt, journal, writer);
-    serve::<T, JsonLines, _, _, _>(rt, alloc, reader, &mut settling, &mut desk)
+    serve::<T, JsonLines, _, _, _>(rt, alloc, reader, writer, &mut desk)?;
+    Ok(())
 }
 
 /// The same, and beside it another thread keeps the journal, where it is to be kept each second.
@@ -58,7 +58,7 @@ fn serve_beside<
     journal: &SharedJournal<'_, J, F, S>,
     reader: &mut R,
     writer: &mut W,
-) -> Result<(), Refusal>
+) -> Result<(), Unserved>
     requires reader { R.failures reader.old < MAX_FAILURES }
     requires writer { W.failures writer.old < MAX_FAILURES }
 {
@@ -121,9 +121,9 @@ fn served<
 
 /// Serves a reader and a writer as [`crate::pipe`] does, with a journal of all that is done, which begins on a fresh
 /// device of the storage before anything is read. No reply is written before what it tells of is appended, and kept
-/// where the policy is to keep always. Where the device fails, the journal goes on on a fresh one, and where that fails
-/// too, it ends without the replies and answers NotKept. It is refused as `pipe` is, and where the journal cannot begin
-/// (WriteFailed). The thread that keeps it each second is another one.
+/// where the policy is to keep always. Where the device fails, the journal goes on on a fresh one. Where that fails too,
+/// or memory for it is refused, it ends without the replies and answers NotKept. It is refused as `pipe` is, and where
+/// the journal cannot begin (WriteFailed). The thread that keeps it each second is another one.
 pub fn pipe_lasting<
     F: Appender + Drop + Send,
     S: Storage<F> + Sync,

@@ -1,16 +1,23 @@
 //! What holds of every restart.
 
 ghost use Rattle.std.specs.Prelude.{◌≤◌, List, take, ℕ};
+ghost use Rattle.words.specs.declared.call.Client.{Client};
+ghost use Rattle.words.specs.declared.call.Reply.{Reply};
 ghost use Rattle.persist.specs.Memory.{words_at_rest};
 ghost use Rattle.journal.specs.Frame.{Batch};
 ghost use Rattle.journal.specs.Journal.{words_after};
+ghost use Rattle.journal_file.specs.OnDevice.{OnDevice};
 ghost use Rattle.named.specs.Brokers.{Brokered};
-ghost use Rattle.session.specs.Keeping.{SessionGoesOn};
+ghost use Rattle.session.specs.Keeping.{IsSettled, SessionGoesOn, told_when_asked};
 ghost use Rattle.session.specs.Sessions.{Sessioned};
 ghost use Rattle.workers.specs.Moments.{IsMomentOf};
-ghost use Rattle.lasting.specs.Lasting.{ReadsMoment};
+ghost use Rattle.lasting.specs.Lasting.{HasMoments, ReadsLater, ReadsMoment};
+ghost use Rattle.desk.specs.Telling.{IsReplied, RanNumbered};
+ghost use Rattle.desk.specs.declared.calls.Asked.{Asked};
 ghost use Rattle.server.specs.Opening.{IsOpened};
-ghost use Rattle.server.specs.Restarting.{AreSettledBy, GoesOnFrom, IsRestartedFrom, LivesOn};
+ghost use Rattle.server.specs.Restarting.{words_read, AreSettledBy, GoesOnFrom, IsRestartedFrom, LivesOn};
+
+use workers::marked_answers_are_told;
 
 /// The broker that is opened on the kept words of a moment, as [`crate::reopened`] is on what a stop leaves of a
 /// journal, goes on from there: it has each queue, with what it held, and each number that was settled at that moment
@@ -36,3 +43,17 @@ pub fn lives_go_on()
     ensures restart { (earlier next : Sessioned) → IsRestartedFrom earlier next → SessionGoesOn earlier next }
     ensures lives { (earlier now : Sessioned) → LivesOn earlier now → SessionGoesOn earlier now }
 {}
+
+/// Let a desk have told a reply with a number, and let a journal assure the session up to which it stands. What a stop
+/// leaves is read as the words of a moment whose session goes on from that one
+/// (`lasting::stops_leave_what_was_assured`). By what the broker on these words tells, the number is settled with that
+/// reply.
+pub fn told_replies_outlast_restarts()
+    ensures { (first now : Sessioned) (client : Client) (asked : Asked) (reply : Reply) (number : ℕ)
+        (replied : IsReplied first now client asked reply)
+        → RanNumbered replied.session client replied.has.entry number → (j : OnDevice) (has : HasMoments first j)
+        (bytes : List ℕ) (left : ReadsLater first now j has bytes) (b : Brokered) → IsOpened (words_read left) b
+        → IsSettled (told_when_asked b replied.has.entry.queue.0 client.0) number reply }
+{
+    marked_answers_are_told();
+}

@@ -6,14 +6,13 @@ ghost use Rattle.workers.specs.Opening.{IsNameOf};
 ghost use Rattle.workers.specs.Seats.{AreAllInOrder};
 ghost use Rattle.server.specs.Image.{IsBusyOrNoMemory, IsImageAfter, IsImageLeftBy};
 
-use crate::connections::{Serving, Sharing, serve_connections};
+use crate::connections::{Desks, InMemory, Serving, Sharing, serve_connections};
 use crate::ending::{image_left, shareable};
 use crate::stopping::Stopping;
 use crossbeam_channel::{Sender, bounded};
 use desk::Seating;
 use log::{Log, warn};
 use named::Broker;
-use settling::{InMemory, Settles};
 use std::alloc::{AllocError, Global};
 use std::marker::Brand;
 use std::net::{Net, SocketAddr, TcpListener, TcpStream};
@@ -88,7 +87,7 @@ fn wake_at_stop<R: Wait + Net + Log>(rt: &R, stopping: &Stopping, address: Optio
 
 /// So many workers serve the connections that are taken, until no more are. At an `Err` there was no memory for their
 /// threads.
-fn serve_all<J: Naming + Send + Sync, S: Settles + Sync, R: Threads + Wait + Log + Sync>(
+fn serve_all<J: Naming + Send + Sync, S: Desks<J> + Sync, R: Threads + Wait + Log + Sync>(
     rt: &R,
     alloc: Global,
     serving: &Serving<'_, J, S>,
@@ -106,7 +105,7 @@ fn serve_all<J: Naming + Send + Sync, S: Settles + Sync, R: Threads + Wait + Log
 /// The same, and beside them this thread waits for a stop.
 fn serve_until_stopped<
     J: Naming + Send + Sync,
-    S: Settles + Sync,
+    S: Desks<J> + Sync,
     R: Threads + Wait + Net + Log + Sync,
 >(
     rt: &R,
@@ -118,7 +117,7 @@ fn serve_until_stopped<
     let (worked, ()) = join(
         rt,
         || serve_all(rt, alloc, serving, workers),
-        || wake_at_stop(rt, serving.stopping, address),
+        || wake_at_stop(rt, serving.sharing.stopping, address),
     );
     worked
 }
@@ -127,27 +126,21 @@ fn serve_until_stopped<
 /// have ended. At an `Err` there was no memory.
 pub(crate) fn work<
     J: Naming + Send + Sync,
-    S: Settles + Sync,
+    S: Desks<J> + Sync,
     R: Threads + Wait + Net + Clock + Log + Sync,
 >(
     rt: &R,
     alloc: Global,
-    sharing: Sharing<'_, J, S>,
-    stopping: &Stopping,
+    sharing: Sharing<'_, J>,
+    desks: &S,
     workers: u32,
     listener: &TcpListener,
 ) -> Result<(), AllocError> {
     let (sender, connections) = bounded(alloc, workers as usize)?;
-    let Sharing {
-        shared,
-        seats,
-        settles,
-    } = sharing;
+    let stopping = sharing.stopping;
     let serving = Serving {
-        shared,
-        seats,
-        settles,
-        stopping,
+        sharing,
+        desks,
         connections: &connections,
     };
     let address = listener.local_addr().ok();
@@ -196,14 +189,13 @@ fn served<J: Naming + Send + Sync, R: Threads + Wait + Net + Clock + Log + Sync>
     let Ok(stopping) = Stopping::new(alloc) else {
         return Err(Refusal::NoMemory);
     };
-    let settles = InMemory;
     let sharing = Sharing {
         shared: &shared,
         seats: &seats,
-        settles: &settles,
+        stopping: &stopping,
     };
     let workers = service.workers.max(1);
-    if work(rt, alloc, sharing, &stopping, workers, listener).is_err() {
+    if work(rt, alloc, sharing, &InMemory, workers, listener).is_err() {
         return Err(Refusal::NoMemory);
     }
     image_left(alloc, shared, seats)

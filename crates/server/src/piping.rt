@@ -11,7 +11,7 @@ ghost use Rattle.server.specs.Piping.{IsServed, LeavesImage, MayEndPipe, MayEndS
 
 use crate::json_lines::JsonLines;
 use devices::{MAX_FAILURES, Reader, Writer};
-use engine::serve;
+use engine::{Failure, serve};
 use named::Broker;
 use owning::{Beginning, OwningDesk};
 use session::Session;
@@ -54,8 +54,13 @@ fn served<J: Beginning, T: Wait, R: Reader, W: Writer>(
     };
     let served = serve::<T, JsonLines, R, W, OwningDesk<J>>(rt, alloc, reader, writer, &mut desk);
     let session = desk.into_session();
-    served?;
-    session.broker().to_image()
+    match served {
+        Ok(()) => session.broker().to_image(),
+        Err(Failure::ReadFailed) => Err(Refusal::ReadFailed),
+        Err(Failure::WriteFailed) => Err(Refusal::WriteFailed),
+        // A desk that has its session for itself settles always.
+        Err(Failure::NotKept) => unreachable!(),
+    }
 }
 
 /// Serves the requests of a reader to a writer, to the end of the input or to an accepted stop, and answers the image

@@ -1,14 +1,15 @@
 //! Readers and writers that fail in the middle of the story, and what stands then.
 
-ghost use Rattle.std.specs.Prelude.{◌≡◌};
+ghost use Rattle.std.specs.Prelude.{◌≡◌, refl};
+ghost use Rattle.chronicle.specs.Chronicled.{entries};
 ghost use Rattle.workers.specs.Opening.{IsNameOf};
 
 use crate::playing::{append_line, fresh};
 use crate::slow::{SlowReader, SlowWriter};
 use crate::story::STORY;
 use desk::{BrokerDesk, Seating};
-use devices::{CountedWriter, FaultyReader, FaultyWriter};
-use engine::{Desk, serve};
+use devices::{CountedWriter, Failed, FaultyReader, FaultyWriter};
+use engine::{Desk, Failure, serve};
 use server::{JsonLines, pipe};
 use session::Session;
 use std::alloc::{AllocError, Global};
@@ -62,36 +63,54 @@ fn story(alloc: Global) -> Result<(Lines, Lines), AllocError> {
     Ok((requests, replies))
 }
 
-/// How many bytes devices give and take before they fail, and at a time.
+/// How many bytes devices give and take before they fail, and at a time; and how often is settled before that fails.
 #[derive(Clone, Copy, Debug)]
 struct Limits {
     readable: usize,
     writable: usize,
     each: usize,
+    settled: usize,
 }
 
 /// How serving ended, what was written, and how many requests were made.
 #[derive(Drop)]
 struct Exchange {
-    end: Result<(), Refusal>,
+    end: Result<(), Failure>,
     written: Vec<u8>,
     made: usize,
 }
 
-/// A desk that counts the requests that are made.
+/// A desk that counts the requests that are made, and settles so often and then fails.
 #[derive(Drop)]
 struct CountingDesk<'a, J: Naming> {
     desk: BrokerDesk<'a, J>,
     made: usize,
+    settles: usize,
+    unsettled: u64,
 }
 
 impl<J: Naming> Desk for CountingDesk<'_, J> {
-    ghost served = { λ desk. desk.desk.served };
+    ghost served = { λ desk. entries desk.desk.served };
+
+    ghost settled = { λ desk. desk.desk.served.settled };
+
+    ghost failures = { λ desk. desk.unsettled };
 
     fn answer<R: Wait>(&mut self, rt: &R, request: Request) -> Answer {
         self.made = self.made.saturating_add(1);
         self.desk.answer(rt, request)
     }
+
+    fn settle<R: Wait>(&mut self, rt: &R) -> Result<(), Failed> {
+        if self.settles == 0 {
+            self.unsettled += 1;
+            return Err(Failed);
+        }
+        self.settles -= 1;
+        self.desk.settle(rt)
+    }
+
+    ghost begins = { λ desk. (desk.desk.served.unsettled, refl) };
 }
 
 /// Serves the input by a desk that counts.
@@ -112,6 +131,8 @@ fn exchanged<J: Naming, T: Wait>(
     let mut desk = CountingDesk {
         desk: BrokerDesk::new(alloc, &shared, &seats)?,
         made: 0,
+        settles: limits.settled,
+        unsettled: 0,
     };
     let mut reader = SlowReader::new(input, limits.each, limits.readable);
     let mut writer = SlowWriter::new(alloc, limits.each, limits.writable);
@@ -141,6 +162,7 @@ fn a_byte_at_a_time(rt: HostRuntime) -> Result<(), Fail> {
         readable: usize::MAX,
         writable: usize::MAX,
         each: 1,
+        settled: usize::MAX,
     };
     let found = served(&rt, rt.alloc(), requests.bytes.as_slice(), limits)?;
     assert!(rt; found.end == Ok(()));
@@ -158,9 +180,10 @@ fn a_writer_fails_after_each_byte(rt: HostRuntime) -> Result<(), Fail> {
             readable: usize::MAX,
             writable,
             each: usize::MAX,
+            settled: usize::MAX,
         };
         let found = served(&rt, rt.alloc(), requests.bytes.as_slice(), limits)?;
-        assert!(rt; found.end == Err(Refusal::WriteFailed), "{writable}");
+        assert!(rt; found.end == Err(Failure::WriteFailed), "{writable}");
         assert_eq!(rt; found.written.len(), writable);
         assert!(rt;
             replies.bytes.starts_with(found.written.as_slice()),
@@ -180,9 +203,10 @@ fn a_slow_writer_fails_after_each_byte(rt: HostRuntime) -> Result<(), Fail> {
             readable: usize::MAX,
             writable,
             each: 1,
+            settled: usize::MAX,
         };
         let found = served(&rt, rt.alloc(), requests.bytes.as_slice(), limits)?;
-        assert!(rt; found.end == Err(Refusal::WriteFailed), "{writable}");
+        assert!(rt; found.end == Err(Failure::WriteFailed), "{writable}");
         assert_eq!(rt; found.written.len(), writable);
         assert!(rt;
             replies.bytes.starts_with(found.written.as_slice()),
@@ -204,10 +228,11 @@ fn a_reader_fails_after_each_byte(rt: HostRuntime) -> Result<(), Fail> {
                 readable,
                 writable: usize::MAX,
                 each,
+                settled: usize::MAX,
             };
             let found = served(&rt, rt.alloc(), requests.bytes.as_slice(), limits)?;
             let lines = requests.within(readable);
-            assert!(rt; found.end == Err(Refusal::ReadFailed), "{limits:?}");
+            assert!(rt; found.end == Err(Failure::ReadFailed), "{limits:?}");
             assert_eq!(rt; found.made, lines, "{limits:?}");
             assert!(rt;
                 replies.bytes.starts_with(found.written.as_slice()),
@@ -220,6 +245,30 @@ fn a_reader_fails_after_each_byte(rt: HostRuntime) -> Result<(), Fail> {
                 "{limits:?}"
             );
         }
+    }
+    Ok(())
+}
+
+/// Each line comes by itself, so its reply is settled and goes before the next request is made. Where that fails nothing
+/// of it is written.
+#[test]
+fn a_desk_fails_after_each_settle(rt: HostRuntime) -> Result<(), Fail> {
+    let (requests, replies) = story(rt.alloc())?;
+    for settled in 0..STORY.len() {
+        let limits = Limits {
+            readable: usize::MAX,
+            writable: usize::MAX,
+            each: 1,
+            settled,
+        };
+        let found = served(&rt, rt.alloc(), requests.bytes.as_slice(), limits)?;
+        assert!(rt; found.end == Err(Failure::NotKept), "{settled}");
+        assert_eq!(rt; found.made, settled.saturating_add(1));
+        assert!(rt;
+            replies.bytes.starts_with(found.written.as_slice()),
+            "{settled}"
+        );
+        assert_eq!(rt; replies.within(found.written.len()), settled);
     }
     Ok(())
 }

@@ -8,7 +8,7 @@ use anyhow::Result;
 use desk::{BrokerDesk, Seating};
 use devices::{CountedWriter, FaultyReader};
 use directory::Name;
-use engine::serve;
+use engine::{Failure, serve};
 use server::JsonLines;
 use session::Session;
 use std::fmt::Write;
@@ -121,7 +121,7 @@ fn served<J: Naming, R: Wait + AllocGlobal>(
     rt: &R,
     desk: &mut BrokerDesk<'_, J>,
     line: &str,
-) -> Result<Written, Refusal> {
+) -> Result<Written, Failure> {
     let mut reader = FaultyReader::new(line.as_bytes(), usize::MAX);
     let mut written = Written::new();
     let mut writer = CountedWriter::new(&mut written);

@@ -1,4 +1,3 @@
 mod Beginnings
 mod Tokens
 mod Steps
-pub mod Facts

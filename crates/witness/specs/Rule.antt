@@ -1,5 +1,5 @@
 -- What the tokens of a row know of it, and what keeps them right.
-use Rattle.std.specs.Prelude.{◌≡◌, ◌⊎◌, ℕ, List, [], ◌++◌, true, false, IsTrue}
+use Rattle.std.specs.Prelude.{◌≡◌, ◌⊎◌, ℕ, List, [], ◌∷◌, ◌++◌, true, false, IsTrue}
 use mathlib.Core.Option.{some}
 use lib.ListN.{get_elem?}
 use Rattle.atomic_table.specs.Seated.{TableId}
@@ -13,55 +13,40 @@ module _ {E : Type 0} where
     pub more : List E
     pub is : all ≡ some ++ more
 
-  -- a token that knows the row, and what of it was handed on
-  abbrev pub keeper : List E → List E → View E
-  keeper handed row = record { keeps = true; handed = handed; row = row; knows = false; begins = []; also = [] }
+  -- a token that knows the row
+  abbrev pub keeper : List E → View E
+  keeper row = record { keeps = true; row = row; knows = false; begins = []; also = [] }
 
   -- a token that knows a beginning of the row
   abbrev pub witness : List E → View E
-  witness begins = record { keeps = false; handed = []; row = []; knows = true; begins = begins; also = [] }
+  witness begins = record { keeps = false; row = []; knows = true; begins = begins; also = [] }
 
   -- one that knows two
   abbrev pub witness_of_both : List E → List E → View E
-  witness_of_both begins also =
-      record { keeps = false; handed = []; row = []; knows = true; begins = begins; also = also }
+  witness_of_both begins also = record { keeps = false; row = []; knows = true; begins = begins; also = also }
 
   -- a keeper that has taken a witness in
-  abbrev pub keeper_and_witness : List E → List E → List E → View E
-  keeper_and_witness handed row begins =
-      record { keeps = true; handed = handed; row = row; knows = true; begins = begins; also = [] }
+  abbrev pub keeper_and_witness : List E → List E → View E
+  keeper_and_witness row begins = record { keeps = true; row = row; knows = true; begins = begins; also = [] }
 
   -- a token that was taken in
   abbrev pub nobody : View E
-  nobody = record { keeps = false; handed = []; row = []; knows = false; begins = []; also = [] }
+  nobody = record { keeps = false; row = []; knows = false; begins = []; also = [] }
 
   -- what the token with this number knows is so: only the keeper keeps the row
-  pub record Fits (keeper_id : ℕ) (handed row : List E) (id : ℕ) (v : View E) : Type 0 where
-    pub keeps : IsTrue v.keeps → (id ≡ keeper_id) × (v.handed ≡ handed) × (v.row ≡ row)
+  pub record Fits (keeper_id : ℕ) (row : List E) (id : ℕ) (v : View E) : Type 0 where
+    pub keeps : IsTrue v.keeps → (id ≡ keeper_id) × (v.row ≡ row)
     pub knows : IsTrue v.knows → Begins v.begins row × Begins v.also row
 
-  abbrev pub AllFit : ℕ → List E → List E → List (View E) → Type 0
-  AllFit keeper_id handed row views =
-      (id : ℕ) (v : View E) → get_elem? views id ≡ some v → Fits keeper_id handed row id v
+  abbrev pub AllFit : ℕ → List E → List (View E) → Type 0
+  AllFit keeper_id row views = (id : ℕ) (v : View E) → get_elem? views id ≡ some v → Fits keeper_id row id v
 
 module _ {S E : Type 0} where
   -- there is one row with one keeper, and what every token knows of it is so
   pub record IsWitnessed (s : State S (View E)) : Type 0 where
     pub keeper_id : ℕ
-    pub handed : List E
     pub row : List E
-    pub each : AllFit keeper_id handed row s.views
-
-  -- the keeper's row becomes what was handed on, and then the entries that the step names
-  abbrev pub NotesRow : (S → List E) → Step S → Me S (View E) → ℕ → Me S (View E) → Type 0
-  NotesRow items st old n new =
-      (x : S) → st.said ≡ some x → new ≡ (keeper old.0.handed (old.0.handed ++ items x), old.1)
-
-  -- and all of it is handed on
-  abbrev pub HandsRowOn : (S → List E) → Step S → Me S (View E) → ℕ → Me S (View E) → Type 0
-  HandsRowOn items st old n new =
-      (x : S) → st.said ≡ some x
-      → new ≡ (keeper (old.0.handed ++ items x) (old.0.handed ++ items x), old.1)
+    pub each : AllFit keeper_id row s.views
 
   -- nothing changes, and the keeper learns that what the witness knows begins the row
   abbrev pub HearsBeginning : Step S → Me S (View E) → ℕ → Me S (View E) → Type 0
@@ -72,21 +57,23 @@ module _ {S E : Type 0} where
   ComparesBeginnings st old n new =
       (Begins old.0.begins old.0.also ⊎ Begins old.0.also old.0.begins) × (new ≡ old)
 
-  -- what a keeper knows of the row, and what of it was handed on
+  -- the row that a keeper knows
   abbrev pub row_of : Seat S (View E) → List E
   row_of token = token.me.0.row
-
-  abbrev pub handed_of : Seat S (View E) → List E
-  handed_of token = token.me.0.handed
 
   -- what a witness knows of it
   abbrev pub beginning_of : Seat S (View E) → List E
   beginning_of token = token.me.0.begins
 
-  -- the token is the keeper of this row, and knows that this is it, and so much of it was handed on
-  abbrev pub IsKeeper : TableId → List E → List E → Seat S (View E) → Type 0
-  IsKeeper id handed row token = (token.table_id ≡ id) × (token.me ≡ (keeper handed row, []))
+  -- the token is the keeper of this row, and knows that this is it
+  abbrev pub IsKeeper : TableId → List E → Seat S (View E) → Type 0
+  IsKeeper id row token = (token.table_id ≡ id) × (token.me ≡ (keeper row, []))
 
   -- the token is a witness of this row, and knows that it begins so
   abbrev pub IsWitness : TableId → List E → Seat S (View E) → Type 0
   IsWitness id begins token = (token.table_id ≡ id) × (token.me ≡ (witness begins, []))
+
+-- the keeper's row has the entry more that the step names
+module _ {E : Type 0} where
+  abbrev pub EntersRow : Step E → Me E (View E) → ℕ → Me E (View E) → Type 0
+  EntersRow st old n new = (x : E) → st.said ≡ some x → new ≡ (keeper (old.0.row ++ x ∷ []), old.1)

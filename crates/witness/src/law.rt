@@ -3,11 +3,10 @@
 use atomic_table::{Join, Play, Split, TableRule};
 use std::collections::LinkedList;
 
-/// What a token knows: as a keeper the row, and the part of it that was handed on; as a witness two beginnings of the
-/// row, of which the second mostly is empty. Where it is neither, the fields say nothing.
+/// What a token knows: as a keeper the row; as a witness two beginnings of it, of which the second mostly is empty.
+/// Where it is neither, the fields say nothing.
 pub struct View<E> {
     pub keeps: bool,
-    pub handed: LinkedList<E>,
     pub row: LinkedList<E>,
     pub knows: bool,
     pub begins: LinkedList<E>,
@@ -17,39 +16,28 @@ pub struct View<E> {
 /// The rule: there is one row, and what the tokens know of it is so. At first one token keeps an empty row.
 pub struct Grows;
 
-impl<E> TableRule<Vec<E>, View<E>, ()> for Grows {
+impl<E> TableRule<E, View<E>, ()> for Grows {
     ghost use Rattle.std.specs.Prelude.{[]};
     ghost use Rattle.witness.specs.Rule.{IsWitnessed, keeper};
 
     ghost holds = { λ _. IsWitnessed };
 
-    ghost first = { λ _. keeper [] [] };
+    ghost first = { λ _. keeper [] };
 }
 
-/// A keeper's row becomes what was handed on, and then these entries, which it goes on to.
-pub struct Note;
+/// A keeper's row has this entry more.
+pub struct Enter;
 
-impl<E> Play<Vec<E>, View<E>> for Note {
-    ghost use Rattle.std.specs.Prelude.{vec_items};
-    ghost use Rattle.witness.specs.Rule.{NotesRow};
+impl<E> Play<E, View<E>> for Enter {
+    ghost use Rattle.witness.specs.Rule.{EntersRow};
 
-    ghost then = { NotesRow vec_items };
-}
-
-/// The same, and all of it is handed on.
-pub struct HandOn;
-
-impl<E> Play<Vec<E>, View<E>> for HandOn {
-    ghost use Rattle.std.specs.Prelude.{vec_items};
-    ghost use Rattle.witness.specs.Rule.{HandsRowOn};
-
-    ghost then = { HandsRowOn vec_items };
+    ghost then = { EntersRow };
 }
 
 /// A keeper that has taken a witness in learns that he knows a beginning of the row.
 pub struct Hear;
 
-impl<E> Play<Vec<E>, View<E>> for Hear {
+impl<E> Play<E, View<E>> for Hear {
     ghost use Rattle.witness.specs.Rule.{HearsBeginning};
 
     ghost then = { HearsBeginning };
@@ -58,7 +46,7 @@ impl<E> Play<Vec<E>, View<E>> for Hear {
 /// Of two beginnings of one row the one begins the other.
 pub struct Compare;
 
-impl<E> Play<Vec<E>, View<E>> for Compare {
+impl<E> Play<E, View<E>> for Compare {
     ghost use Rattle.witness.specs.Rule.{ComparesBeginnings};
 
     ghost then = { ComparesBeginnings };
@@ -70,7 +58,7 @@ pub struct Tell;
 impl<E> Split<View<E>> for Tell {
     ghost use Rattle.witness.specs.Rule.{keeper, witness};
 
-    ghost left = { λ v. keeper v.handed v.row };
+    ghost left = { λ v. keeper v.row };
 
     ghost right = { λ v. witness v.row };
 }
@@ -81,7 +69,7 @@ pub struct LetGo;
 impl<E> Split<View<E>> for LetGo {
     ghost use Rattle.witness.specs.Rule.{keeper, witness};
 
-    ghost left = { λ v. keeper v.handed v.row };
+    ghost left = { λ v. keeper v.row };
 
     ghost right = { λ v. witness v.begins };
 }
@@ -92,7 +80,7 @@ pub struct TakeIn;
 impl<E> Join<View<E>> for TakeIn {
     ghost use Rattle.witness.specs.Rule.{keeper_and_witness, nobody};
 
-    ghost both = { λ v w. keeper_and_witness v.handed v.row w.begins };
+    ghost both = { λ v w. keeper_and_witness v.row w.begins };
 
     ghost spent = { nobody };
 }

@@ -1,9 +1,9 @@
 //! Rows and their tokens.
 
-ghost use Rattle.std.specs.Prelude.{◌≡◌, ◌⊎◌, ◌++◌, [], IfOk};
-ghost use Rattle.witness.specs.Rule.{Begins, IsKeeper, IsWitness, beginning_of, handed_of, row_of};
+ghost use Rattle.std.specs.Prelude.{◌≡◌, ◌⊎◌, ◌++◌, ◌∷◌, [], IfOk};
+ghost use Rattle.witness.specs.Rule.{Begins, IsKeeper, IsWitness, beginning_of, row_of};
 
-use crate::law::{Both, Compare, Grows, HandOn, Hear, LetGo, Note, TakeIn, Tell, View};
+use crate::law::{Both, Compare, Enter, Grows, Hear, LetGo, TakeIn, Tell, View};
 use atomic_table::{Seat, Table};
 use std::alloc::{AllocError, Global};
 use std::marker::Model;
@@ -14,11 +14,11 @@ const WORD: usize = 0;
 /// The value that each step finds in the word, and leaves there.
 const SAME: u64 = 0;
 
-/// What the tokens of one row share. The idea is that of the monotone lists of Iris, with a keeper for `mono_list_auth`
-/// and a witness for `mono_list_lb`.
+/// What the tokens of one row share: a keeper knows all of the row, and a witness a beginning of it. The idea is that of
+/// the monotone lists of Iris.
 #[derive(Drop)]
 pub struct Row<E> {
-    table: Table<Vec<E>, View<E>, (), Grows, Global>,
+    table: Table<E, View<E>, (), Grows, Global>,
 }
 
 /// A contract sees which row it is.
@@ -34,55 +34,35 @@ impl<E> Model for Row<E> {
 }
 
 /// A keeper or a witness. It can go to another thread, and is never copied.
-pub type Token<E> = Seat<Vec<E>, View<E>>;
+pub type Token<E> = Seat<E, View<E>>;
 
 impl<E> Row<E> {
     /// An empty row, and its keeper.
     #[tactic(auto, using(crate::proofs::Steps::begins))]
     pub fn open(alloc: Global) -> Result<(Row<E>, Token<E>), AllocError>
-        ensures { IfOk result (λ r. IsKeeper r.0 [] [] r.1) }
+        ensures { IfOk result (λ r. IsKeeper r.0 [] r.1) }
     {
         let (table, keeper) = Table::of_words(alloc, &[SAME], &())?;
         Ok((Row { table }, keeper))
     }
 
-    /// The row becomes what was handed on, and then these entries, with which it is to go on from what it was. The token
-    /// is a witness of all of it.
-    pub fn witness(&self, keeper: &mut Token<E>, noted: &Vec<E>) -> Token<E>
-        requires keeper { IsKeeper self.now (handed_of keeper.old) (row_of keeper.old) keeper.old }
-        requires goes_on { Begins (row_of keeper.old) (handed_of keeper.old ++ noted.now.items) }
-        ensures keeper { IsKeeper self.now
-            (handed_of keeper.old)
-            (handed_of keeper.old ++ noted.now.items)
-            keeper.new }
-        ensures witness { IsWitness self.now (handed_of keeper.old ++ noted.now.items) result }
+    /// The row has this entry more. The token is a witness of all of it.
+    pub fn enter(&self, keeper: &mut Token<E>, entry: &E) -> Token<E>
+        requires { IsKeeper self.now (row_of keeper.old) keeper.old }
+        ensures keeper { IsKeeper self.now (row_of keeper.old ++ entry.now ∷ []) keeper.new }
+        ensures witness { IsWitness self.now (row_of keeper.old ++ entry.now ∷ []) result }
     {
         let shared = &self.table.shared;
-        shared.compare_exchange_with::<Note>(keeper, WORD, SAME, SAME, noted);
-        shared.split_seat::<Tell>(keeper)
-    }
-
-    /// The same, and all of it is handed on.
-    pub fn hand_on(&self, keeper: &mut Token<E>, batch: &Vec<E>) -> Token<E>
-        requires keeper { IsKeeper self.now (handed_of keeper.old) (row_of keeper.old) keeper.old }
-        requires goes_on { Begins (row_of keeper.old) (handed_of keeper.old ++ batch.now.items) }
-        ensures keeper { IsKeeper self.now
-            (handed_of keeper.old ++ batch.now.items)
-            (handed_of keeper.old ++ batch.now.items)
-            keeper.new }
-        ensures witness { IsWitness self.now (handed_of keeper.old ++ batch.now.items) result }
-    {
-        let shared = &self.table.shared;
-        shared.compare_exchange_with::<HandOn>(keeper, WORD, SAME, SAME, batch);
+        shared.compare_exchange_with::<Enter>(keeper, WORD, SAME, SAME, entry);
         shared.split_seat::<Tell>(keeper)
     }
 
     /// The keeper hears a witness, who is handed back: what he knows begins the row.
     pub fn hear(&self, keeper: &mut Token<E>, witness: Token<E>) -> Token<E>
-        requires keeper { IsKeeper self.now (handed_of keeper.old) (row_of keeper.old) keeper.old }
+        requires keeper { IsKeeper self.now (row_of keeper.old) keeper.old }
         requires witness { IsWitness self.now (beginning_of witness) witness }
         ensures begins { Begins (beginning_of witness) (row_of keeper.old) }
-        ensures keeper { IsKeeper self.now (handed_of keeper.old) (row_of keeper.old) keeper.new }
+        ensures keeper { IsKeeper self.now (row_of keeper.old) keeper.new }
         ensures witness { IsWitness self.now (beginning_of witness) result }
     {
         let shared = &self.table.shared;

@@ -1,5 +1,5 @@
 -- How the rows that a keeper knows follow the session beside it under the lock.
-use Rattle.std.specs.Prelude.{◌≡◌, ◌≤◌, ℕ, Bool, true, false, length, List, Option, Some, slice_get}
+use Rattle.std.specs.Prelude.{◌≡◌, ◌≤◌, ℕ, Bool, true, false, length, List, Option, Some, All, slice_get}
 use Rattle.words.specs.declared.call.Client.{Client}
 use Rattle.named.specs.Brokers.{is_down}
 use Rattle.session.specs.Keeping.{SessionGoesOn}
@@ -39,15 +39,15 @@ pub record AreFollowed (since : ℕ → ℕ) (s : Sessioned) (rows : List (List 
   pub each : (t : ℕ) (row : List Entry) → slice_get rows t ≡ Some row → IsFollowed since s (record { 0 = t }) row
 
 -- what lies under the lock: the session, the rows that the keeper knows, what was done to all of the session, the
--- creation that threads know of, whether the histories have ended since the seats were given, and the session as it was
--- when changes of kept words were handed on last, or the seats were given
+-- creation that threads know of, whether the histories have ended since the seats were given, and the sessions that were
+-- marked
 pub record Guarded : Type 0 where
   pub session : Sessioned
   pub rows : List (List Entry)
   pub deeds : List (List Deed)
   pub creating : Creating
   pub rotated : Bool
-  pub last : Sessioned
+  pub marked : List Sessioned
 
 -- what a contract sees of what lies under the lock: this, and, where changes of kept words are noted, for how many more
 -- there is room
@@ -57,7 +57,7 @@ pub record Held : Type 0 where
   pub deeds : List (List Deed)
   pub creating : Creating
   pub rotated : Bool
-  pub last : Sessioned
+  pub marked : List Sessioned
   pub promised : Option ℕ
 
 abbrev pub guarded_in : Held → Guarded
@@ -67,7 +67,7 @@ guarded_in h = record {
   deeds = h.deeds;
   creating = h.creating;
   rotated = h.rotated;
-  last = h.last;
+  marked = h.marked;
 }
 
 -- the session may be shared as it is: it has so many clients, nobody uses it, and it keeps its promises
@@ -79,8 +79,7 @@ pub record IsBeginning (all : ℕ) (first : Sessioned) : Type 0 where
 -- what holds of it whenever the lock is free, where there are so many clients, and the session was this one when the
 -- seats were given: each call is in the queue of its name; what was settled then is so still, the clients of its log
 -- queues are such clients still, and the queues that it had then are there, each with a history that went on from where
--- it began, or ended with a rotation or a renewal. The session goes on from what it was when changes were handed on
--- last
+-- it began, or ended with a rotation or a renewal. The session goes on from each that was marked
 pub record IsGuardedWell (all : ℕ) (first : Sessioned) (g : Guarded) : Type 0 where
   pub beginning : IsBeginning all first
   pub clients : length g.rows ≡ all
@@ -91,4 +90,4 @@ pub record IsGuardedWell (all : ℕ) (first : Sessioned) (g : Guarded) : Type 0 
   pub goes_on : SessionGoesOn first g.session
   pub came : CameThrough first.broker g.rotated g.session.broker
   pub done : CameBy first.broker g.deeds g.session.broker
-  pub later : GoesOnLater g.last g.session
+  pub later : All (λ s. GoesOnLater s g.session) g.marked

@@ -1,6 +1,7 @@
 -- Moments of a shared session, by their kept words; and that of two moments the later goes on from the earlier.
-use Rattle.std.specs.Prelude.{◌≡◌, ℕ, Bool, List, [], ◌∷◌}
+use Rattle.std.specs.Prelude.{◌≡◌, ◌<◌, ℕ, Bool, List, [], ◌∷◌, length, map, All}
 use Rattle.persist.specs.declared.access.Change.{Change}
+use Rattle.witness.specs.Accounts.{Known}
 use Rattle.named.specs.Booting.{AreBootWords}
 use Rattle.session.specs.Keeping.{SessionGoesOn}
 use Rattle.session.specs.Promises.{KeepsNumbers}
@@ -25,17 +26,24 @@ pub record IsMomentOf (first session : Sessioned) (kept : List ℕ) : Type 0 whe
   pub boots : AreBootWords kept
   pub told : IsSettledTold session
 
--- what was handed on: the changes, and the session as it was at the last time, or when the seats were given
+-- what was handed on: the changes, and the session as it was at the last time, or when the seats were given; and the
+-- sessions that who hands on has assured
 pub record HandedOn : Type 0 where
   pub changes : List Change
   pub last : Sessioned
+  pub assured : List Sessioned
 
--- the session that the holder of an agreement on one knows
-abbrev pub session_held : List Sessioned → Sessioned
-session_held [] = no_session
-session_held (session ∷ more) = session
+-- the last one of these sessions
+abbrev pub latest : List Sessioned → Sessioned
+latest [] = no_session
+latest (s ∷ []) = s
+latest (s ∷ t ∷ more) = latest (t ∷ more)
 
--- that its keeper knows
-abbrev pub session_kept : List (List Sessioned) → Sessioned
-session_kept [] = no_session
-session_kept (row ∷ more) = session_held row
+-- sessions that were marked, each behind the other: the last one goes on from each of them
+pub record AreMarks (marked : List Sessioned) : Type 0 where
+  pub some : 0 < length marked
+  pub later : All (λ s. GoesOnLater s (latest marked)) marked
+
+-- the sessions that these marks are of
+abbrev pub marked_in : List (Known Sessioned) → List Sessioned
+marked_in marks = map (λ mark. latest mark.entries) marks

@@ -1,26 +1,27 @@
 //! The changes of kept words, where they are noted.
 
-ghost use Rattle.std.specs.Prelude.{◌≡◌, ◌+◌, ◌++◌, [], ℕ, List, false, true, IfErr, IfOk, None, OnErr, OnOk};
+ghost use Rattle.std.specs.Prelude.{◌≡◌, ◌+◌, ◌++◌, ◌∷◌, [], ℕ, List, false, true, IfErr, IfOk, None, OnErr, OnOk};
 ghost use Rattle.persist.specs.Noted.{answer_in, change_in, IsNoted};
+ghost use Rattle.roll.specs.Rule.{IsHolder, IsKeeper, row_of};
 ghost use Rattle.named.specs.Lasting.{steps_left};
 ghost use Rattle.named.specs.Renewing.{HasRoomInEach, IsRenewedAt, IsWhyNotRenewedAt, MayRenew};
 ghost use Rattle.session.specs.Keeping.{SessionGoesOn};
 ghost use Rattle.session.specs.Promises.{KeepsNumbers};
-ghost use Rattle.witness.specs.Rule.{Begins};
-ghost use Rattle.workers.specs.Noting.{HasPromised, IsBookOn, promised_in, with_promised};
+ghost use Rattle.workers.specs.Noting.{handed_in, HasPromised, IsBookOn, promised_in, with_promised};
 
 use arena::SlotId;
 use notes::Notes;
 use persist::{Change, Noted};
+use roll::{Roll, Token};
 use session::Session;
 use std::alloc::AllocError;
-use witness::{Hander, Ledger};
 use words::Refusal;
 
-/// The changes of kept words: the ledger of those that were handed on, and those that were noted since.
+/// The changes of kept words: the keeper of those that were handed on, and those that were noted since.
 #[derive(Drop)]
 pub(crate) struct Book {
-    pub(crate) ledger: Ledger<Change>,
+    pub(crate) roll: Roll<Change>,
+    pub(crate) keeper: Token<Change>,
     pub(crate) notes: Notes,
 }
 
@@ -29,28 +30,28 @@ impl Book {
     /// was promised, and then all stays.
     pub(crate) fn hand_on(
         &mut self,
-        hander: Hander<Change>,
+        holder: Token<Change>,
         fresh: Vec<Change>,
-    ) -> (Hander<Change>, Result<Vec<Change>, AllocError>)
+    ) -> (Token<Change>, Result<Vec<Change>, AllocError>)
         requires fresh { fresh.items ≡ [] }
-        requires ledger { hander.ledger ≡ self.old.ledger.id }
-        requires told { Begins self.old.ledger.told (self.old.ledger.handed ++ self.old.notes.changes) }
+        requires keeper { IsKeeper self.old.roll (handed_in self.old ∷ []) self.old.keeper }
+        requires holder { IsHolder self.old.roll 0 (row_of holder) holder }
         ensures batch { IfOk result.1 (λ batch. batch.items ≡ self.old.notes.changes) }
-        ensures before { OnOk result.1 (hander.row ≡ self.old.ledger.handed) }
-        ensures id { OnOk result.1 (self.new.ledger.id ≡ self.old.ledger.id) }
-        ensures handed { IfOk result.1 (λ batch. self.new.ledger.handed ≡ self.old.ledger.handed ++ batch.items) }
-        ensures told { IfOk result.1 (λ batch. self.new.ledger.told ≡ self.old.ledger.handed ++ batch.items) }
+        ensures before { OnOk result.1 (row_of holder ≡ handed_in self.old) }
+        ensures roll { OnOk result.1 (self.new.roll ≡ self.old.roll) }
+        ensures keeper { IfOk result.1
+            (λ batch. IsKeeper self.old.roll ((handed_in self.old ++ batch.items) ∷ []) self.new.keeper) }
         ensures notes { OnOk result.1 (self.new.notes ≡ record self.old.notes { changes = [] }) }
-        ensures row { IfOk result.1 (λ batch. result.0.row ≡ hander.row ++ batch.items) }
-        ensures hander { result.0.ledger ≡ hander.ledger }
+        ensures holder { IfOk result.1
+            (λ batch. IsHolder self.old.roll 0 (row_of holder ++ batch.items) result.0) }
         ensures same { OnErr result.1 (self.new ≡ self.old) }
-        ensures unmoved { OnErr result.1 (result.0.row ≡ hander.row) }
+        ensures unmoved { OnErr result.1 (result.0 ≡ holder) }
     {
         let Ok(batch) = self.notes.hand_out(fresh) else {
-            return (hander, Err(AllocError));
+            return (holder, Err(AllocError));
         };
-        let hander = self.ledger.hand_on(hander, &batch);
-        (hander, Ok(batch))
+        let holder = self.roll.extend(&mut self.keeper, holder, &batch);
+        (holder, Ok(batch))
     }
 }
 

@@ -167,6 +167,7 @@ impl<J: Naming> Shared<J> {
         ensures moment { OnOk result.2
             (IsMomentOf J.first result.1.last (applied result.1.changes J.first.broker.words.kept)) }
         ensures later { OnOk result.2 (GoesOnLater handed.last result.1.last) }
+        ensures assured { result.1.assured ≡ handed.assured }
         ensures same { OnErr result.2 (result.1 ≡ handed) }
         ensures errors { IfErr result.2 (λ e. e ≡ Refusal.NoMemory) }
     {

@@ -1,129 +1,96 @@
-//! How changes of kept words are handed on from under the lock, and marked.
+//! How changes of kept words are handed on from under the lock, and the session marked.
 
-ghost use Rattle.std.specs.Prelude.{◌≡◌, ◌<◌, ◌++◌, [], length, true, All, IfErr, IfOk, IfSome, OnErr, OnOk};
+ghost use Rattle.std.specs.Prelude.{◌≡◌, ◌<◌, ◌++◌, ◌∷◌, [], length, true, All, Contains, IfErr, IfOk, OnErr, OnOk};
 ghost use Rattle.persist.specs.Noted.{applied};
 ghost use Rattle.notes.specs.Noting.{IsMadeBy};
-ghost use Rattle.session.specs.Sessions.{Sessioned};
-ghost use Rattle.witness.specs.Counts.{IsCountOf};
-ghost use Rattle.witness.specs.Rule.{Begins};
+ghost use Rattle.roll.specs.Rule.{IsHolder, row_of};
 ghost use Rattle.workers.specs.Marks.{IsMarkedBy};
 ghost use Rattle.workers.specs.Moments.{GoesOnLater, IsMomentOf};
-ghost use Rattle.workers.specs.Noting.{OfLedger};
+ghost use Rattle.workers.specs.Noting.{OfRoll};
 
 use crate::entry::Entry;
-use crate::last::KnownLast;
 use crate::locked::Locked;
+use crate::marks::{Assured, Assuring, Marked};
 use crate::naming::Naming;
 use crate::seat::{Seat, known};
 use crate::shared::Shared;
 use directory::CREATION_STEPS;
 use persist::Change;
-use roll::Roll;
+use roll::{Roll, Token};
 use std::alloc::Global;
 use std::marker::{Model, PhantomData};
 use std::sync::Wait;
 use waiting::lock;
-use witness::{Hander, Mark};
 use words::Refusal;
 
 /// Who takes the changes of kept words from under the lock, to hand them on. There is one, who knows all that were
-/// handed on since the seats were given. While none takes them, they are noted on, and take memory.
+/// handed on since the seats were given, and has a mark of the session at the last time. While none takes them, they are
+/// noted on, and take memory.
 #[derive(Drop)]
 pub struct Handed<J: Naming> {
-    hander: Hander<Change>,
-    last: KnownLast<J>,
+    holder: Token<Change>,
+    last: Marked<J>,
+    assuring: Assuring<J>,
     of: PhantomData<J>,
 }
 
-/// A contract sees the changes that were handed on, the first one first, and the session as it was at the last time.
+/// A contract sees the changes that were handed on, the first one first, the session as it was at the last time, and the
+/// sessions that were assured.
 impl<J: Naming> Model for Handed<J> {
-    ghost use Rattle.std.specs.Prelude.{◌≡◌};
+    ghost use Rattle.roll.specs.Rule.{IsHolder, row_of};
     ghost use Rattle.workers.specs.Moments.{HandedOn};
-    ghost use Rattle.workers.specs.Noting.{OfLedger};
+    ghost use Rattle.workers.specs.Noting.{OfRoll};
 
     ghost Value = { HandedOn };
 
-    ghost view = { λ h. record { changes = h.hander.row; last = h.last } };
+    ghost view = { λ h. record { changes = row_of h.holder; last = h.last; assured = h.assuring } };
 
-    ghost invariant = { λ h. OfLedger J.roll.changes (λ ledger. h.hander.ledger ≡ ledger) };
+    ghost invariant = { λ h. OfRoll J.roll.changes (λ roll. IsHolder roll 0 (row_of h.holder) h.holder) };
 }
 
 impl<J: Naming> Handed<J> {
-    /// The one of this ledger, who knows that session.
-    pub(crate) fn new(hander: Hander<Change>, last: KnownLast<J>) -> Self
-        requires { OfLedger J.roll.changes (λ ledger. hander.ledger ≡ ledger) }
-        ensures { result ≡ record { changes = hander.row; last = last } }
+    /// The one of this holder, who has a mark of that session, and has assured these.
+    pub(crate) fn new(holder: Token<Change>, last: Marked<J>, assuring: Assuring<J>) -> Self
+        requires { OfRoll J.roll.changes (λ roll. IsHolder roll 0 (row_of holder) holder) }
+        ensures { result ≡ record { changes = row_of holder; last = last; assured = assuring } }
     {
         Handed {
-            hander,
+            holder,
             last,
+            assuring,
             of: PhantomData,
         }
     }
 
-    /// How many changes were handed on.
-    pub fn count(&self) -> u64
-        ensures { IsCountOf result (length self.now.changes) }
+    /// Assures the session of a mark. What this means is for his owner to say, who lets nobody else do it.
+    pub fn assure(self, marked: &Marked<J>) -> (Self, Assured<J>)
+        ensures handed { result.0 ≡ record self { assured = self.assured ++ marked.now ∷ [] } }
+        ensures assured { result.1 ≡ marked.now }
     {
-        self.hander.count()
+        let (holder, last, mut assuring) = self.into_parts();
+        let assured = assuring.assure(marked);
+        (Handed::new(holder, last, assuring), assured)
     }
 
-    /// Who hands on, without the name, and what he knows of the session.
-    fn into_parts(self) -> (Hander<Change>, KnownLast<J>)
-        ensures row { result.0.row ≡ self.changes }
-        ensures ledger { OfLedger J.roll.changes (λ ledger. result.0.ledger ≡ ledger) }
+    /// Hears a token, whose session is one of those that were assured. Both come back as they were.
+    pub fn hears(self, assured: Assured<J>) -> (Self, Assured<J>)
+        ensures heard { Contains self.assured assured }
+        ensures handed { result.0 ≡ self }
+        ensures assured { result.1 ≡ assured }
+    {
+        let (holder, last, mut assuring) = self.into_parts();
+        let assured = assuring.hear(assured);
+        (Handed::new(holder, last, assuring), assured)
+    }
+
+    /// His holder, his mark, and what he has assured.
+    fn into_parts(self) -> (Token<Change>, Marked<J>, Assuring<J>)
+        ensures row { row_of result.0 ≡ self.changes }
+        ensures holder { OfRoll J.roll.changes (λ roll. IsHolder roll 0 (row_of result.0) result.0) }
         ensures last { result.1 ≡ self.last }
+        ensures assured { result.2 ≡ self.assured }
     {
-        (self.hander, self.last)
-    }
-}
-
-/// The changes of kept words that had been noted when it was made, for good: all that were handed on afterwards go on
-/// from them.
-#[derive(Drop)]
-pub struct Marked<J: Naming> {
-    mark: Mark<Change>,
-    of: PhantomData<J>,
-}
-
-/// A contract sees these changes, the first one first.
-impl<J: Naming> Model for Marked<J> {
-    ghost use Rattle.std.specs.Prelude.{◌≡◌, List};
-    ghost use Rattle.persist.specs.declared.access.Change.{Change};
-    ghost use Rattle.workers.specs.Noting.{OfLedger};
-
-    ghost Value = { List Change };
-
-    ghost view = { λ m. m.mark.begins };
-
-    ghost invariant = { λ m. OfLedger J.roll.changes (λ ledger. m.mark.row ≡ ledger.row) };
-}
-
-impl<J: Naming> Marked<J> {
-    /// These changes, under the name.
-    fn new(mark: Mark<Change>) -> Self
-        requires { OfLedger J.roll.changes (λ ledger. mark.row ≡ ledger.row) }
-        ensures { result ≡ mark.begins }
-    {
-        Marked {
-            mark,
-            of: PhantomData,
-        }
-    }
-
-    /// How many changes it has.
-    pub fn count(&self) -> u64
-        ensures { IsCountOf result (length self.now) }
-    {
-        self.mark.count()
-    }
-
-    /// The mark, without the name.
-    fn into_mark(self) -> Mark<Change>
-        ensures begins { result.begins ≡ self }
-        ensures row { OfLedger J.roll.changes (λ ledger. result.row ≡ ledger.row) }
-    {
-        self.mark
+        (self.holder, self.last, self.assuring)
     }
 }
 
@@ -143,70 +110,85 @@ impl<J: Naming> Locked<J> {
         ensures moment { OnOk result.1
             (IsMomentOf J.first result.0.last (applied result.0.changes J.first.broker.words.kept)) }
         ensures later { OnOk result.1 (GoesOnLater handed.last result.0.last) }
+        ensures assured { result.0.assured ≡ handed.assured }
         ensures session { self.new.session ≡ self.old.session }
         ensures same { OnErr result.1 (result.0 ≡ handed) }
         ensures errors { IfErr result.1 (λ e. e ≡ Refusal.NoMemory) }
     {
         self.session.tells_settled();
-        let (hander, last) = handed.into_parts();
+        let (holder, last, assuring) = handed.into_parts();
         let Some(book) = &mut self.book else {
             // Who has changes to hand on is of a session whose changes are noted.
             unreachable!();
         };
-        match book.hand_on(hander, fresh) {
-            (hander, Ok(batch)) => {
-                let last = self.last.tell(last, &self.session);
-                (Handed::new(hander, last), Ok(batch))
+        match book.hand_on(holder, fresh) {
+            (holder, Ok(batch)) => {
+                let last = self.marks.mark_further(last, &self.session);
+                (Handed::new(holder, last, assuring), Ok(batch))
             }
-            (hander, Err(_)) => (Handed::new(hander, last), Err(Refusal::NoMemory)),
+            (holder, Err(_)) => (Handed::new(holder, last, assuring), Err(Refusal::NoMemory)),
         }
     }
 
-    /// Whether all that was marked was handed on.
+    /// Whether the last hand-on goes on from what was marked.
     fn has_handed(&self, handed: Handed<J>, marked: Marked<J>) -> (Handed<J>, Marked<J>, bool)
-        ensures handed { result.2 ≡ true → Begins marked handed.changes }
+        ensures handed { result.2 ≡ true → GoesOnLater marked handed.last }
         ensures hander { result.0 ≡ handed }
         ensures mark { result.1 ≡ marked }
     {
-        let _ = &self.session;
-        let (hander, last) = handed.into_parts();
-        let mark = marked.into_mark();
-        let Some(book) = &self.book else {
-            // Who has changes to hand on is of a session whose changes are noted.
-            unreachable!();
-        };
-        let (hander, mark, has) = book.ledger.has_handed(hander, mark);
-        (Handed::new(hander, last), Marked::new(mark), has)
+        let (holder, last, assuring) = handed.into_parts();
+        let (marked, last, has) = self.marks.is_before(marked, last);
+        (Handed::new(holder, last, assuring), marked, has)
     }
 
-    /// Marks all changes that were noted so far, where they are noted.
-    fn mark_noted(&mut self) -> Option<Marked<J>>
-        ensures moment { IfSome result (λ marked.
-            IsMomentOf J.first self.new.session (applied marked J.first.broker.words.kept)) }
+    /// Marks the session.
+    fn mark_now(&mut self) -> Marked<J>
+        ensures moment { IsMomentOf J.first result result.broker.words.kept }
+        ensures now { result ≡ self.new.session }
         ensures session { self.new.session ≡ self.old.session }
     {
         self.session.tells_settled();
-        let Some(book) = &mut self.book else {
-            return None;
-        };
-        let mark = book.ledger.mark(book.notes.changes());
-        Some(Marked::new(mark))
+        self.marks.mark(&self.session)
     }
 
-    /// The same, where a seat is at hand, which is handed back as it was.
-    fn mark(&mut self, roll: &Roll<Entry>, seat: Seat<J>) -> (Seat<J>, Option<Marked<J>>)
+    /// Marks it twice, in the place of an earlier mark.
+    fn mark_twice(&mut self, before: Marked<J>) -> (Marked<J>, Marked<J>)
+        ensures before { GoesOnLater before result.0 }
+        ensures same { result.1 ≡ result.0 }
+    {
+        let kept = self.marks.mark_further(before, &self.session);
+        let given = self.marks.mark(&self.session);
+        (kept, given)
+    }
+
+    /// Marks it where a seat is at hand, which is handed back as it was.
+    fn mark(&mut self, roll: &Roll<Entry>, seat: Seat<J>) -> (Seat<J>, Marked<J>)
         requires roll { roll.now ≡ J.roll.lists }
         ensures client { result.0.client ≡ seat.client }
         ensures list { result.0.list.items ≡ seat.list.items }
-        ensures marked { IfSome result.1 (IsMarkedBy J.first seat.client seat.list.items) }
+        ensures marked { IsMarkedBy J.first seat.client seat.list.items result.1 }
     {
         self.session.tells_settled();
         let seat = known(roll, &mut self.keeper, seat);
-        let Some(book) = &mut self.book else {
-            return (seat, None);
-        };
-        let mark = book.ledger.mark(book.notes.changes());
-        (seat, Some(Marked::new(mark)))
+        (seat, self.marks.mark(&self.session))
+    }
+
+    /// The same, in the place of an earlier mark.
+    fn mark_further(
+        &mut self,
+        roll: &Roll<Entry>,
+        seat: Seat<J>,
+        before: Marked<J>,
+    ) -> (Seat<J>, Marked<J>)
+        requires roll { roll.now ≡ J.roll.lists }
+        ensures client { result.0.client ≡ seat.client }
+        ensures list { result.0.list.items ≡ seat.list.items }
+        ensures marked { IsMarkedBy J.first seat.client seat.list.items result.1 }
+        ensures before { GoesOnLater before result.1 }
+    {
+        self.session.tells_settled();
+        let seat = known(roll, &mut self.keeper, seat);
+        (seat, self.marks.mark_further(before, &self.session))
     }
 }
 
@@ -227,6 +209,7 @@ impl<J: Naming> Shared<J> {
         ensures moment { OnOk result.1
             (IsMomentOf J.first result.0.last (applied result.0.changes J.first.broker.words.kept)) }
         ensures later { OnOk result.1 (GoesOnLater handed.last result.0.last) }
+        ensures assured { result.0.assured ≡ handed.assured }
         ensures same { OnErr result.1 (result.0 ≡ handed) }
         ensures errors { IfErr result.1 (λ e. e ≡ Refusal.NoMemory) }
     {
@@ -237,37 +220,59 @@ impl<J: Naming> Shared<J> {
         lock(rt, &self.locked).hand_on(handed, fresh)
     }
 
-    /// Whether all changes that were marked were handed on. Both come back as they were.
+    /// Whether the session of the last hand-on goes on from the marked one, as it does where the mark was made before.
+    /// Both come back as they were.
     pub fn has_handed<R: Wait>(
         &self,
         rt: &R,
         handed: Handed<J>,
         marked: Marked<J>,
     ) -> (Handed<J>, Marked<J>, bool)
-        ensures handed { result.2 ≡ true → Begins marked handed.changes }
+        ensures handed { result.2 ≡ true → GoesOnLater marked handed.last }
         ensures hander { result.0 ≡ handed }
         ensures mark { result.1 ≡ marked }
     {
         lock(rt, &self.locked).has_handed(handed, marked)
     }
 
-    /// Marks all changes of kept words that were noted so far, where they are noted. They make the kept words of a
-    /// moment.
-    pub fn mark_noted<R: Wait>(&self, rt: &R) -> Option<Marked<J>>
-        ensures moment { IfSome result (λ marked. (session : Sessioned)
-            × IsMomentOf J.first session (applied marked J.first.broker.words.kept)) }
+    /// Marks the session as it is now, which is at a moment.
+    pub fn mark_now<R: Wait>(&self, rt: &R) -> Marked<J>
+        ensures moment { IsMomentOf J.first result result.broker.words.kept }
     {
-        lock(rt, &self.locked).mark_noted()
+        lock(rt, &self.locked).mark_now()
     }
 
-    /// The same, where a seat is at hand. They make the kept words of a moment whose histories have the seat's list: so
-    /// each answer that the list has is told by the words that these changes make, and a reply may go out once they last.
-    /// The seat comes back as it was.
-    pub fn mark<R: Wait>(&self, rt: &R, seat: Seat<J>) -> (Seat<J>, Option<Marked<J>>)
+    /// Marks the session as it is now twice, in the place of an earlier mark, from which it goes on: one mark to keep,
+    /// and one to give to who settles.
+    pub fn mark_twice<R: Wait>(&self, rt: &R, before: Marked<J>) -> (Marked<J>, Marked<J>)
+        ensures before { GoesOnLater before result.0 }
+        ensures same { result.1 ≡ result.0 }
+    {
+        lock(rt, &self.locked).mark_twice(before)
+    }
+
+    /// Marks the session where a seat is at hand. The session's histories have the seat's list: so each answer that the
+    /// list has is one that the session gave, and a reply may go out once the session lasts. The seat comes back as it was.
+    pub fn mark<R: Wait>(&self, rt: &R, seat: Seat<J>) -> (Seat<J>, Marked<J>)
         ensures client { result.0.client ≡ seat.client }
         ensures list { result.0.list.items ≡ seat.list.items }
-        ensures marked { IfSome result.1 (IsMarkedBy J.first seat.client seat.list.items) }
+        ensures marked { IsMarkedBy J.first seat.client seat.list.items result.1 }
     {
         lock(rt, &self.locked).mark(&self.roll, seat)
+    }
+
+    /// The same, in the place of an earlier mark: the session goes on from what it was then.
+    pub fn mark_further<R: Wait>(
+        &self,
+        rt: &R,
+        seat: Seat<J>,
+        before: Marked<J>,
+    ) -> (Seat<J>, Marked<J>)
+        ensures client { result.0.client ≡ seat.client }
+        ensures list { result.0.list.items ≡ seat.list.items }
+        ensures marked { IsMarkedBy J.first seat.client seat.list.items result.1 }
+        ensures before { GoesOnLater before result.1 }
+    {
+        lock(rt, &self.locked).mark_further(&self.roll, seat, before)
     }
 }

@@ -4,7 +4,6 @@ ghost use Rattle.std.specs.Prelude.{◌≡◌, ◌<◌, ℕ, List, None, Ok, Som
 ghost use Rattle.words.specs.declared.call.Client.{Client};
 ghost use Rattle.words.specs.declared.call.Kind.{Kind};
 ghost use Rattle.words.specs.declared.call.Reply.{Reply};
-ghost use Rattle.persist.specs.declared.access.Change.{Change};
 ghost use Rattle.events.specs.declared.event.Event.{Event};
 ghost use Rattle.interleave.specs.State.{State};
 ghost use Rattle.interleave.specs.Verdicts.{IsIdle, kept_told};
@@ -12,7 +11,7 @@ ghost use Rattle.named.specs.Brokers.{world_at};
 ghost use Rattle.session.specs.Keeping.{IsSettled, verdict_heard};
 ghost use Rattle.session.specs.Promises.{KeepsNumbers};
 ghost use Rattle.session.specs.Requests.{number_or_zero};
-ghost use Rattle.session.specs.Sessions.{Sessioned};
+ghost use Rattle.session.specs.Sessions.{kept_at, Sessioned};
 ghost use Rattle.workers.specs.Accounts.{call_count, ran_count, IsAnsweredAs, IsToldOfCall};
 ghost use Rattle.workers.specs.Lists.{events_at, HasEntryAt, IsListOf, IsRecorded};
 ghost use Rattle.workers.specs.Marks.{IsMarkedBy};
@@ -43,18 +42,24 @@ pub fn interrupted_calls_are_told()
         → has.entry.end ≡ End.Answered reply → IsAnsweredAs w client place reply }
 {}
 
-/// What a mark tells of the answers in a seat's list. At the moment of the mark each call took effect as it was answered
-/// (`taken`). Where the broker is ready then, and the client calls nothing, the words that the marked changes make tell
-/// that its number is settled (`told`).
+/// What a marked session tells of the answers in a seat's list. Each call took effect as it was answered (`taken`). Where
+/// the broker was ready then, and the client called nothing, a number of a log queue that was answered is settled in the
+/// session (`settled`), and its kept words tell so (`told`). Elsewhere no verdict need be kept yet that says so.
 pub fn marked_answers_are_told()
-    ensures taken { (first : Sessioned) (client : Client) (list : List Entry) (changes : List Change)
-        (slot place : ℕ) (w : State) (reply : Reply) → (marked : IsMarkedBy first client list changes)
-        → world_at marked.session.broker slot ≡ Some w → (has : HasEntryAt list slot place)
+    ensures taken { (first : Sessioned) (client : Client) (list : List Entry) (session : Sessioned)
+        (slot place : ℕ) (w : State) (reply : Reply) → IsMarkedBy first client list session
+        → world_at session.broker slot ≡ Some w → (has : HasEntryAt list slot place)
         → has.entry.end ≡ End.Answered reply → IsAnsweredAs w client place reply }
-    ensures told { (first : Sessioned) (client : Client) (list : List Entry) (changes : List Change)
-        (slot place : ℕ) (w : State) (reply : Reply) (number : ℕ) → (marked : IsMarkedBy first client list changes)
-        → world_at marked.session.broker slot ≡ Some w → (has : HasEntryAt list slot place)
+    ensures settled { (first : Sessioned) (client : Client) (list : List Entry) (session : Sessioned)
+        (slot place : ℕ) (w : State) (reply : Reply) (number : ℕ) → IsMarkedBy first client list session
+        → world_at session.broker slot ≡ Some w → (has : HasEntryAt list slot place)
         → has.entry.end ≡ End.Answered reply → has.entry.number ≡ Some number
-        → marked.session.broker.recovery ≡ None → w.shape.kind ≡ Kind.Log → client.0 < w.shape.clients
+        → session.broker.recovery ≡ None → w.shape.kind ≡ Kind.Log → client.0 < w.shape.clients
+        → IsIdle w client → IsSettled (kept_at session slot client) number reply }
+    ensures told { (first : Sessioned) (client : Client) (list : List Entry) (session : Sessioned)
+        (slot place : ℕ) (w : State) (reply : Reply) (number : ℕ) → IsMarkedBy first client list session
+        → world_at session.broker slot ≡ Some w → (has : HasEntryAt list slot place)
+        → has.entry.end ≡ End.Answered reply → has.entry.number ≡ Some number
+        → session.broker.recovery ≡ None → w.shape.kind ≡ Kind.Log → client.0 < w.shape.clients
         → IsIdle w client → IsSettled (verdict_heard (Ok (kept_told w client))) number reply }
 {}

@@ -14,7 +14,7 @@ ghost use Rattle.workers.specs.Seats.{AreEmpty};
 use crate::book::{Book, noted, promise};
 use crate::deeds::Register;
 use crate::entry::{End, Entry, Request, Took, last_queue};
-use crate::last::Last;
+use crate::marks::Marks;
 use crate::naming::Naming;
 use crate::seat::{Seat, known, with_entry, with_last};
 use arena::SlotId;
@@ -46,8 +46,8 @@ pub(crate) struct Locked<J: Naming> {
     pub(crate) rotated: bool,
     /// The changes of kept words, where they are noted.
     pub(crate) book: Option<Book>,
-    /// The session as it was when they were handed on last.
-    pub(crate) last: Last<J>,
+    /// The sessions that were marked.
+    pub(crate) marks: Marks<J>,
     of: PhantomData<J>,
 }
 
@@ -64,7 +64,7 @@ impl<J: Naming> Model for Locked<J> {
       deeds = rows_of l.register.keeper;
       creating = l.creating;
       rotated = l.rotated;
-      last = l.last;
+      marked = l.marks;
       promised = promised_in l.book;
     } };
 
@@ -75,7 +75,7 @@ impl<J: Naming> Model for Locked<J> {
           deeds = rows_of l.register.keeper;
           creating = l.creating;
           rotated = l.rotated;
-          last = l.last;
+          marked = l.marks;
         })
         × IsKeeper J.roll.deeds (rows_of l.register.keeper) l.register.keeper
         × IsBooked J.roll.changes J.first.broker.words.kept l.session.broker l.creating l.book };
@@ -108,7 +108,7 @@ impl<J: Naming> Locked<J> {
         keeper: Token<Entry>,
         register: Register,
         book: Option<Book>,
-        last: Last<J>,
+        marks: Marks<J>,
     ) -> Self
         requires keeper { IsKeeper J.roll.lists (rows_of keeper) keeper }
         requires register { IsKeeper J.roll.deeds ([] ∷ []) register.keeper }
@@ -117,7 +117,7 @@ impl<J: Naming> Locked<J> {
         requires beginning { IsBeginning J.clients session }
         requires empty { AreEmpty (λ row. row) (rows_of keeper) }
         requires book { IsBooked J.roll.changes J.first.broker.words.kept session.broker Creating.Nothing book }
-        requires last { last ≡ J.first }
+        requires marks { marks ≡ J.first ∷ [] }
     {
         Locked {
             session,
@@ -126,7 +126,7 @@ impl<J: Naming> Locked<J> {
             creating: Creating::Nothing,
             rotated: false,
             book,
-            last,
+            marks,
             of: PhantomData,
         }
     }

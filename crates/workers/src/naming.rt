@@ -9,8 +9,8 @@ pub trait Naming {
     ghost use Rattle.session.specs.Sessions.{Sessioned};
     ghost use Rattle.workers.specs.Naming.{Rolls};
 
-    /// The rolls of the seats' lists, of what was done to all of the session, and of the changes that were handed on,
-    /// with the agreement on the session as it was then.
+    /// The rolls of the seats' lists, of what was done to all of the session, and of the changes that were handed on; and
+    /// the rows of the sessions that were marked and assured.
     ghost roll: { Rolls };
 
     /// How many clients, and so seats, there are.

@@ -1,7 +1,7 @@
 //! How a session comes to be shared.
 
 ghost use Rattle.std.specs.Prelude.{◌≡◌, ◌⊎◌, ◌∷◌, [], false, true, IfErr, IfOk, OnOk};
-ghost use Rattle.roll.specs.Rule.{IsHolder, IsKeeper};
+ghost use Rattle.roll.specs.Rule.{IsKeeper};
 ghost use Rattle.workers.specs.Noting.{IsBooked};
 ghost use Rattle.workers.specs.Opening.{IsInUse, IsNameOf, IsNotInUse, HasNoCall};
 ghost use Rattle.workers.specs.Seats.{AreAllInOrder, AreEmpty};
@@ -10,8 +10,8 @@ use crate::book::Book;
 use crate::deeds::{Deed, Register};
 use crate::entry::Entry;
 use crate::handed::Handed;
-use crate::last::{KnownLast, Last};
 use crate::locked::{Creating, Locked};
+use crate::marks::{Assuring, Marked, Marks};
 use crate::naming::Naming;
 use crate::operator::Operator;
 use crate::seat::{Seat, seat_of};
@@ -19,12 +19,12 @@ use crate::shared::Shared;
 use arena::{SLOTS, SlotId};
 use notes::Notes;
 use persist::Change;
-use roll::{Agreement, Half, Roll, Token};
+use roll::{Roll, Token};
 use session::Session;
 use std::alloc::{AllocError, Global};
 use std::marker::Model;
 use std::sync::Mutex;
-use witness::{Hander, Ledger};
+use witness::{Mark, Teller};
 use words::{Client, Refusal};
 
 /// A session that is about to be shared, which has no name yet.
@@ -35,27 +35,25 @@ pub struct Opened {
     keeper: Token<Entry>,
     deeds: Roll<Deed>,
     register: Register,
-    last: Agreement<Session>,
-    last_keeper: Half<Session>,
-    last_holder: Half<Session>,
+    marks: Teller<Session>,
 }
 
 impl Model for Opened {
-    ghost use Rattle.std.specs.Prelude.{◌∷◌, [], None};
-    ghost use Rattle.roll.specs.Rule.{IsHolder, IsKeeper};
+    ghost use Rattle.std.specs.Prelude.{◌≡◌, [], None};
+    ghost use Rattle.roll.specs.Rule.{IsKeeper};
+    ghost use Rattle.workers.specs.Naming.{no_table};
     ghost use Rattle.workers.specs.Opening.{IsNotInUse, Unnamed};
 
     ghost Value = { Unnamed };
 
     ghost view = { λ o. record {
-      roll = record { lists = o.roll; deeds = o.deeds; changes = None; last = o.last };
+      roll = record { lists = o.roll; deeds = o.deeds; changes = None; marks = o.marks.row; assured = no_table };
       session = o.session;
     } };
 
     ghost invariant = { λ o. IsKeeper o.roll [] o.keeper × IsNotInUse o.session.broker
         × IsKeeper o.deeds [] o.register.keeper
-        × IsKeeper o.last ((o.session ∷ []) ∷ []) o.last_keeper
-        × IsHolder o.last 0 (o.session ∷ []) o.last_holder };
+        × (o.marks.entries ≡ []) };
 }
 
 /// Why a session is not shared; it is handed back.
@@ -122,23 +120,15 @@ impl Opened {
                 session,
             });
         }
-        match (
-            Roll::open(alloc),
-            registered(alloc),
-            Agreement::open(alloc, &session),
-        ) {
-            (Ok((roll, keeper)), Ok((deeds, register)), Ok((last, last_keeper, last_holder))) => Ok(
-                Opened {
-                    session,
-                    roll,
-                    keeper,
-                    deeds,
-                    register,
-                    last,
-                    last_keeper,
-                    last_holder,
-                },
-            ),
+        match (Roll::open(alloc), registered(alloc), Teller::open(alloc)) {
+            (Ok((roll, keeper)), Ok((deeds, register)), Ok(marks)) => Ok(Opened {
+                session,
+                roll,
+                keeper,
+                deeds,
+                register,
+                marks,
+            }),
             _ => Err(NotOpened {
                 refusal: Refusal::NoMemory,
                 session,
@@ -151,13 +141,14 @@ impl Opened {
         ensures session { IfOk result (λ noting. noting.session ≡ self.session) }
         ensures errors { IfErr result (λ not. (not.refusal ≡ Refusal.NoMemory) × (not.session ≡ self.session)) }
     {
-        match Ledger::open(alloc) {
-            Ok((ledger, hander)) => Ok(Noting {
+        match (Roll::open(alloc), Teller::open(alloc)) {
+            (Ok((changes, keeper)), Ok(assured)) => Ok(Noting {
                 opened: self,
-                ledger,
-                hander,
+                changes,
+                keeper,
+                assured,
             }),
-            Err(_) => Err(NotOpened {
+            _ => Err(NotOpened {
                 refusal: Refusal::NoMemory,
                 session: self.session,
             }),
@@ -178,27 +169,27 @@ impl Opened {
         ensures errors { IfErr result (λ not. (not.refusal ≡ Refusal.NoMemory) × (not.session ≡ self.session)) }
     {
         match self.shared(alloc, None) {
-            Ok((shared, seats, operator, _last)) => Ok((shared, seats, operator)),
+            Ok((shared, seats, operator, _first)) => Ok((shared, seats, operator)),
             Err(not) => Err(not),
         }
     }
 
-    /// It, with this book, and what who hands changes on knows.
+    /// It, with this book, and a mark of the first session.
     fn shared<J: Naming>(
         self,
         alloc: Global,
         book: Option<Book>,
-    ) -> Result<(Shared<J>, Vec<Seat<J>>, Operator<J>, KnownLast<J>), NotOpened>
+    ) -> Result<(Shared<J>, Vec<Seat<J>>, Operator<J>, Marked<J>), NotOpened>
         requires lists { self.roll.lists ≡ J.roll.lists }
         requires deeds { self.roll.deeds ≡ J.roll.deeds }
-        requires last { self.roll.last ≡ J.roll.last }
+        requires marks { self.roll.marks ≡ J.roll.marks }
         requires clients { self.session.broker.counts.clients ≡ J.clients }
         requires first { self.session ≡ J.first }
         requires book { IsBooked J.roll.changes J.first.broker.words.kept self.session.broker Creating.Nothing book }
         ensures order { IfOk result (λ r. AreAllInOrder (λ seat. seat.client) J.clients r.1.items) }
         ensures empty { IfOk result (λ r. AreEmpty (λ seat. seat.list.items) r.1.items) }
         ensures operator { IfOk result (λ r. r.2 ≡ []) }
-        ensures last { IfOk result (λ r. r.3 ≡ J.first) }
+        ensures mark { IfOk result (λ r. r.3 ≡ J.first) }
         ensures errors { IfErr result (λ not. (not.refusal ≡ Refusal.NoMemory) × (not.session ≡ self.session)) }
     {
         let Opened {
@@ -207,9 +198,7 @@ impl Opened {
             mut keeper,
             deeds,
             mut register,
-            last,
-            last_keeper,
-            last_holder,
+            marks,
         } = self;
         let clients = session.broker().clients();
         let mut seats = Vec::new(alloc);
@@ -225,14 +214,15 @@ impl Opened {
             seats.push_reserved(seat_of(Client(client as u8), list, token));
         }
         let operator = register.appoint(&deeds);
-        let last = Last::new(last, last_keeper);
-        let locked = Mutex::new(Locked::new(session, keeper, register, book, last));
+        let mut marks = Marks::new(marks);
+        let first = marks.mark(&session);
+        let locked = Mutex::new(Locked::new(session, keeper, register, book, marks));
         let shared = Shared {
             roll,
             deeds,
             locked,
         };
-        Ok((shared, seats, operator, KnownLast::new(last_holder)))
+        Ok((shared, seats, operator, first))
     }
 }
 
@@ -240,12 +230,14 @@ impl Opened {
 #[derive(Drop)]
 pub struct Noting {
     opened: Opened,
-    ledger: Ledger<Change>,
-    hander: Hander<Change>,
+    changes: Roll<Change>,
+    keeper: Token<Change>,
+    assured: Teller<Mark<Session>>,
 }
 
 impl Model for Noting {
     ghost use Rattle.std.specs.Prelude.{◌≡◌, [], Some};
+    ghost use Rattle.roll.specs.Rule.{IsKeeper};
     ghost use Rattle.workers.specs.Opening.{Unnamed};
 
     ghost Value = { Unnamed };
@@ -254,14 +246,14 @@ impl Model for Noting {
       roll = record {
         lists = o.opened.roll.lists;
         deeds = o.opened.roll.deeds;
-        changes = Some o.ledger.id;
-        last = o.opened.roll.last;
+        changes = Some o.changes;
+        marks = o.opened.roll.marks;
+        assured = o.assured.row;
       };
       session = o.opened.session;
     } };
 
-    ghost invariant = { λ o. (o.hander.ledger ≡ o.ledger.id) × (o.hander.row ≡ [])
-        × (o.ledger.handed ≡ []) × (o.ledger.told ≡ []) };
+    ghost invariant = { λ o. IsKeeper o.changes [] o.keeper × (o.assured.entries ≡ []) };
 }
 
 impl Noting {
@@ -274,21 +266,29 @@ impl Noting {
         ensures order { IfOk result (λ r. AreAllInOrder (λ seat. seat.client) J.clients r.1.items) }
         ensures empty { IfOk result (λ r. AreEmpty (λ seat. seat.list.items) r.1.items) }
         ensures operator { IfOk result (λ r. r.2 ≡ []) }
-        ensures handed { IfOk result (λ r. r.3 ≡ record { changes = []; last = J.first }) }
+        ensures handed { IfOk result (λ r. r.3 ≡ record { changes = []; last = J.first; assured = [] }) }
         ensures errors { IfErr result (λ not. (not.refusal ≡ Refusal.NoMemory) × (not.session ≡ self.session)) }
     {
         let Noting {
             opened,
-            ledger,
-            hander,
+            changes,
+            mut keeper,
+            assured,
         } = self;
+        let holder = changes.enroll(&mut keeper, &Vec::new(alloc));
         let book = Book {
-            ledger,
+            roll: changes,
+            keeper,
             notes: Notes::new(alloc),
         };
         match opened.shared(alloc, Some(book)) {
-            Ok((shared, seats, operator, last)) => {
-                Ok((shared, seats, operator, Handed::new(hander, last)))
+            Ok((shared, seats, operator, first)) => {
+                Ok((
+                    shared,
+                    seats,
+                    operator,
+                    Handed::new(holder, first, Assuring::new(assured)),
+                ))
             }
             Err(not) => Err(not),
         }

@@ -2,8 +2,9 @@
 use Rattle.std.proofs.Common.{◌≡◌, ◌≢◌, ◌++◌, ◌∷◌, [], inl, inr, ℕ, suc, ◌≤◌, Bool, true, false, length, List, Option, Some, None, Result, Ok, Err, slice_get, refl, sym, ap, ◌∙◌, subst, arith}
 use Rattle.std.proofs.lemmas.Bool.{cases_eq}
 use Rattle.std.proofs.lemmas.List.{length-set}
+use Rattle.std.proofs.lemmas.List.Elements.{All-push}
 use Rattle.std.proofs.lemmas.Option.{same_Some}
-use Rattle.std.specs.Prelude.{IfErr, IfSome, is_some, not, ◌&&◌, IsSome, slice_set}
+use Rattle.std.specs.Prelude.{All, IfErr, IfSome, is_some, not, ◌&&◌, IsSome, slice_set}
 use Rattle.words.specs.declared.call.Client.{Client}
 use Rattle.arena.specs.declared.broker.SlotId.{SlotId}
 use Rattle.session.specs.Keeping.{SessionGoesOn}
@@ -41,7 +42,7 @@ use Rattle.workers.specs.declared.locked.Creating.{Creating}
 use Rattle.workers.specs.declared.locked.Creating.TheVariants.{Interrupted, Nothing, UnderWay}
 use Rattle.workers.specs.Seats.{AreEmpty}
 use Rattle.workers.proofs.brokers.Comings.{through_further}
-use Rattle.workers.proofs.guard.Laters.{later_further, later_itself, session_further}
+use Rattle.workers.proofs.guard.Laters.{all_later, later_further, later_itself, session_further}
 use Rattle.workers.proofs.guard.Acts.{IsCarriedFor}
 use Rattle.workers.proofs.histories.Rows.{followed_empty, row_changed, rows_carried, set_here}
 use Rattle.workers.proofs.lists.Names.{named_on}
@@ -75,10 +76,10 @@ with_deeds all first g deeds kept same well came = record {
   later = well.later;
 }
 
--- where the session that was handed on last is this very one
-pub with_last : (all : ℕ) (first : Sessioned) (g : Guarded) (last : Sessioned) → last ≡ g.session
-    → IsGuardedWell all first g → IsGuardedWell all first (record g { last = last })
-with_last all first g last same well = record {
+-- where this very session is marked
+pub with_mark : (all : ℕ) (first : Sessioned) (g : Guarded) (marked : List Sessioned) → marked ≡ g.marked ++ g.session ∷ []
+    → IsGuardedWell all first g → IsGuardedWell all first (record g { marked = marked })
+with_mark all first g marked more well = record {
   beginning = well.beginning;
   clients = well.clients;
   followed = well.followed;
@@ -88,7 +89,8 @@ with_last all first g last same well = record {
   goes_on = well.goes_on;
   came = well.came;
   done = well.done;
-  later = subst (λ (s : Sessioned). GoesOnLater s g.session) (sym same) (later_itself g.session);
+  later = subst (λ (ms : List Sessioned). All (λ s. GoesOnLater s g.session) ms) (sym more)
+      (All-push (λ s. GoesOnLater s g.session) g.marked g.session well.later (later_itself g.session));
 }
 
 -- a crash comes to the operator's row
@@ -109,7 +111,7 @@ module _ (all : ℕ) (first : Sessioned) (old : Guarded) (well : IsGuardedWell a
         deeds = deeds;
         creating = creating;
         rotated = old.rotated;
-        last = old.last;
+        marked = old.marked;
       })
   guarded_by new deeds creating carried keeps on known done = record {
     beginning = well.beginning;
@@ -123,7 +125,8 @@ module _ (all : ℕ) (first : Sessioned) (old : Guarded) (well : IsGuardedWell a
     goes_on = session_further first old.session new well.goes_on on.numbers;
     came = through_further first.broker old.rotated old.session.broker new.broker well.came on.queues;
     done = done;
-    later = later_further old.last old.session new well.later on.numbers on.queues;
+    later = all_later old.marked old.session new well.later
+        (later_further old.session old.session new (later_itself old.session) on.numbers on.queues);
   }
 
   -- no crash came
@@ -135,7 +138,7 @@ module _ (all : ℕ) (first : Sessioned) (old : Guarded) (well : IsGuardedWell a
         deeds = old.deeds;
         creating = creating;
         rotated = old.rotated;
-        last = old.last;
+        marked = old.marked;
       })
   guarded_still new creating carried keeps on known =
       guarded_by new old.deeds creating carried keeps on known
@@ -151,7 +154,7 @@ module _ (all : ℕ) (first : Sessioned) (old : Guarded) (well : IsGuardedWell a
         deeds = slice_set old.deeds 0 (stops ++ Crash ∷ []);
         creating = creating;
         rotated = old.rotated;
-        last = old.last;
+        marked = old.marked;
       })
   guarded_stopped new creating stops at carried keeps on known stopped =
       guarded_by new (slice_set old.deeds 0 (stops ++ Crash ∷ [])) creating carried keeps on known
@@ -169,7 +172,7 @@ module _ (all : ℕ) (first : Sessioned) (old : Guarded) (well : IsGuardedWell a
         deeds = old.deeds;
         creating = old.creating;
         rotated = old.rotated;
-        last = old.last;
+        marked = old.marked;
       })
   guarded_of new t row begun carried its named keeps on known = record {
     beginning = well.beginning;
@@ -191,7 +194,8 @@ module _ (all : ℕ) (first : Sessioned) (old : Guarded) (well : IsGuardedWell a
     came = through_further first.broker old.rotated old.session.broker new.broker well.came on.queues;
     done = act well.done on.queues
         (unstopped (record { 0 = suc t }) old.session new (carried (suc t) (λ same. absurd (omega (arith, same)))));
-    later = later_further old.last old.session new well.later on.numbers on.queues;
+    later = all_later old.marked old.session new well.later
+        (later_further old.session old.session new (later_itself old.session) on.numbers on.queues);
   }
 
 -- rows that have no calls yet, since histories of these lengths

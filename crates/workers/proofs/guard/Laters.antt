@@ -1,5 +1,8 @@
 -- A session goes on from an earlier one: over an act, over none, and over two stretches.
-use Rattle.std.proofs.Common.{ℕ, Bool, true, false}
+use Rattle.std.proofs.Common.{◌≡◌, ◌<◌, ℕ, Bool, true, false, List, [], ◌∷◌, ◌++◌, length, refl, subst, sym, ap, ◌∙◌, arith, length-append}
+use Rattle.std.specs.Prelude.{All, Contains}
+use Rattle.std.proofs.lemmas.List.{map-append}
+use Rattle.std.proofs.lemmas.List.Elements.{All-contains, All-contains_itself, All-head, All-push, All-tail, All-weaker, Contains-append_left}
 use Rattle.named.specs.Brokers.{Brokered}
 use Rattle.named.specs.GoingOn.{BrokerGoesOn, CameOf}
 use Rattle.named.specs.GoingOn.CameOf.{rotated, unrotated}
@@ -10,7 +13,9 @@ use Rattle.session.specs.Keeping.{SessionGoesOn}
 use Rattle.session.specs.Sessions.{Sessioned}
 use Rattle.workers.specs.Coming.{CameThrough}
 use Rattle.workers.specs.Coming.CameThrough.{renewed, unrenewed}
-use Rattle.workers.specs.Moments.{GoesOnLater}
+use Rattle.witness.specs.Accounts.{Known}
+use Rattle.witness.specs.Rule.{Begins}
+use Rattle.workers.specs.Moments.{AreMarks, GoesOnLater, latest, marked_in}
 use Rattle.workers.proofs.brokers.Comings.{through_further, through_itself, through_renewal, through_rotation}
 
 -- what was settled once stays so over two acts
@@ -88,3 +93,57 @@ later_still earlier now new before more =
       ended = through.ended;
       came = through.came;
     }
+
+-- each of these sessions
+pub all_later : (marked : List Sessioned) (now new : Sessioned) → All (λ s. GoesOnLater s now) marked
+    → GoesOnLater now new → All (λ s. GoesOnLater s new) marked
+all_later marked now new all on =
+    All-weaker (λ s. GoesOnLater s now) (λ s. GoesOnLater s new) (λ s before. later_still s now new before on) marked all
+
+-- what is marked behind others is the last one
+pub latest_is : (marked : List Sessioned) (s : Sessioned) → latest (marked ++ s ∷ []) ≡ s
+latest_is [] s = refl
+latest_is (x ∷ []) s = refl
+latest_is (x ∷ y ∷ marked) s = latest_is (y ∷ marked) s
+
+-- what holds of each holds of the last one
+pub latest_among : (P : Sessioned → Type 0) (marked : List Sessioned) → 0 < length marked → All P marked → P (latest marked)
+latest_among P [] some all = absurd (omega (arith, some))
+latest_among P (x ∷ []) some all = All-head P x [] all
+latest_among P (x ∷ y ∷ marked) some all = latest_among P (y ∷ marked) (omega arith) (All-tail P x (y ∷ marked) all)
+
+-- one more
+pub marks_more : (marked : List Sessioned) (s : Sessioned) → All (λ m. GoesOnLater m s) marked → AreMarks (marked ++ s ∷ [])
+marks_more marked s all = record {
+  some = omega (arith, length-append marked (s ∷ []));
+  later = subst (λ (last : Sessioned). All (λ m. GoesOnLater m last) (marked ++ s ∷ [])) (sym (latest_is marked s))
+      (All-push (λ m. GoesOnLater m s) marked s all (later_itself s));
+}
+
+-- the last one of a beginning is among all
+pub latest_begins : (some all : List Sessioned) → 0 < length some → Begins some all → Contains all (latest some)
+latest_begins some all one begins =
+    latest_among (Contains all) some one
+    (All-weaker (Contains some) (Contains all)
+    (λ s there. subst (λ (xs : List Sessioned). Contains xs s) (sym begins.is) (Contains-append_left some begins.more s there))
+    some (All-contains_itself some))
+
+-- of marks that begin others the last one is of a session from which the last of those goes on
+pub marks_later : (some all : List Sessioned) → AreMarks some → AreMarks all → Begins some all
+    → GoesOnLater (latest some) (latest all)
+marks_later some all one other begins =
+    All-contains (λ s. GoesOnLater s (latest all)) all (latest some) other.later (latest_begins some all one.some begins)
+
+-- the session of a mark that is entered behind others
+pub marked_is : (marks : List (Known Sessioned)) (mark : Known Sessioned)
+    → latest (marked_in (marks ++ mark ∷ [])) ≡ latest mark.entries
+marked_is marks mark =
+    ap latest (map-append (λ (m : Known Sessioned). latest m.entries) marks (mark ∷ []))
+    ∙ latest_is (marked_in marks) (latest mark.entries)
+
+-- marks that begin others are of sessions that begin theirs
+pub marked_begins : (some all : List (Known Sessioned)) → Begins some all → Begins (marked_in some) (marked_in all)
+marked_begins some all begins = record {
+  more = marked_in begins.more;
+  is = ap marked_in begins.is ∙ map-append (λ (mark : Known Sessioned). latest mark.entries) some begins.more;
+}

@@ -1,14 +1,12 @@
 -- What is noted of kept words stays right over each act.
-use Rattle.std.proofs.Common.{◌≡◌, ◌<◌, ◌≤◌, ◌+◌, ◌++◌, [], ℕ, List, Option, Some, None, Result, Ok, Bool, refl, sym, ap, ◌∙◌, append-nil, subst, arith}
-use mathlib.Core.List.{append_assoc}
+use Rattle.std.proofs.Common.{◌≡◌, ◌<◌, ◌≤◌, ◌+◌, ◌++◌, ◌∷◌, [], ℕ, List, Option, Some, None, Result, Ok, Bool, refl, sym, ap, ◌∙◌, append-nil, subst, arith}
 use Rattle.std.specs.Prelude.{IfSome, IsSome}
 use Rattle.words.specs.declared.refusal.Refusal.{Refusal}
 use Rattle.persist.specs.declared.access.Change.{Change}
 use Rattle.notes.specs.Noting.{IsMadeBy, Noting}
 use Rattle.notes.proofs.Facts.{made_by_notes, noted_none}
-use Rattle.witness.specs.Accounts.{LedgerId}
-use Rattle.witness.specs.Rule.{Begins}
-use Rattle.witness.proofs.Facts.{begins_further, begins_itself, begins_more}
+use Rattle.roll.specs.Rule.{IsKeeper}
+use Rattle.roll.specs.Seated.{TableId}
 use Rattle.words.specs.declared.call.Kind.{Kind}
 use Rattle.arena.specs.declared.broker.SlotId.{SlotId}
 use Rattle.stepper.specs.declared.resume.After.{After}
@@ -20,7 +18,7 @@ use Rattle.named.specs.Brokers.{Brokered, IsBegun, IsStepCreated}
 use Rattle.named.specs.Stopping.{IsRecoveryStep}
 use Rattle.named.specs.declared.recovery.BrokerRecovery.{BrokerRecovery}
 use Rattle.workers.specs.Creating.{IsCreationKnown, creating_after_crash}
-use Rattle.workers.specs.Noting.{HasPromised, IsBooked, IsBookOn, IsBookRight, OfLedger, promised_in, to_create}
+use Rattle.workers.specs.Noting.{HasPromised, IsBooked, IsBookOn, IsBookRight, OfRoll, first_row, handed_in, promised_in, to_create}
 use Rattle.workers.specs.Noting.{with_promised}
 use Rattle.workers.specs.declared.book.Book.{Book}
 use Rattle.workers.specs.declared.locked.Creating.{Creating}
@@ -66,22 +64,13 @@ promised_back changes (Some n) now (Some k) more less =
     let same : n + changes ≡ k + changes = cc (sym more ∙ less) in
     ap (λ (x : ℕ). let o : Option ℕ = Some x in o) (omega (arith, same))
 
--- what a mark knows is among what was noted, and that goes on
-told_further : (told handed was now more : List Change) → Begins told (handed ++ was) → now ≡ was ++ more
-    → Begins told (handed ++ now)
-told_further told handed was now more begins behind =
-    begins_further told (handed ++ was) (handed ++ now) begins (record {
-      more = more;
-      is = ap (λ (cs : List Change). handed ++ cs) behind ∙ sym (append_assoc handed was more);
-    })
-
-module _ (roll : Option LedgerId) (first : List ℕ) where
+module _ (roll : Option TableId) (first : List ℕ) where
   -- there is room for what a creation may still change
   pub booked_promised : (now : Brokered) (creating : Creating) (book : Option Book)
       → IsBooked roll first now creating book → HasPromised (to_create creating now.creation) (promised_in book)
   booked_promised now creating book is = go roll book is
     where
-      go : (r : Option LedgerId) (b : Option Book) → IsBooked r first now creating b
+      go : (r : Option TableId) (b : Option Book) → IsBooked r first now creating b
           → HasPromised (to_create creating now.creation) (promised_in b)
       go None None is = tt
       go None (Some b) is = absurd is
@@ -94,7 +83,7 @@ module _ (roll : Option LedgerId) (first : List ℕ) where
       → HasPromised (to_create after new.creation) (promised_in now) → IsBooked roll first new after now
   booked_act old new creating after was now is on has = go roll was now is on has
     where
-      go : (r : Option LedgerId) (a b : Option Book) → IsBooked r first old creating a
+      go : (r : Option TableId) (a b : Option Book) → IsBooked r first old creating a
           → IsBookOn a b old.words.kept new.words.kept → HasPromised (to_create after new.creation) (promised_in b)
           → IsBooked r first new after b
       go None None None is on has = tt
@@ -103,11 +92,10 @@ module _ (roll : Option LedgerId) (first : List ℕ) where
       go (Some r) None b is on has = absurd is
       go (Some r) (Some a) None is on has = absurd on
       go (Some r) (Some a) (Some b) is on has = record {
-        same = ap (λ (x : Book). x.ledger.id) on.0 ∙ is.same;
-        told = subst (λ (x : Book). Begins x.ledger.told (x.ledger.handed ++ b.notes.changes)) (sym on.0)
-            (told_further a.ledger.told a.ledger.handed a.notes.changes b.notes.changes on.1.more is.told on.1.behind);
-        made = subst (λ (x : Book). IsMadeBy (x.ledger.handed ++ b.notes.changes) first new.words.kept) (sym on.0)
-            (made_by_notes a.ledger.handed a.notes.changes b.notes.changes first old.words.kept new.words.kept is.made on.1);
+        same = ap (λ (x : Book). x.roll) on.0 ∙ is.same;
+        keeper = subst (λ (x : Book). IsKeeper r (handed_in x ∷ []) x.keeper) (sym on.0) is.keeper;
+        made = subst (λ (x : Book). IsMadeBy (handed_in x ++ b.notes.changes) first new.words.kept) (sym on.0)
+            (made_by_notes (handed_in a) a.notes.changes b.notes.changes first old.words.kept new.words.kept is.made on.1);
         promised = has;
       }
 
@@ -280,60 +268,36 @@ created_first b now name kind some begun = go now.creation some begun
     go (Some creation) some begun =
         subst (λ (x : Creation). left_at x.at ≤ 12) (sym begun.begun) (omega arith)
 
--- who is of the ledger that the name has, and the book beside it
-pub book_of : (o : Option LedgerId) (first : List ℕ) (now : Brokered) (creating : Creating) (book : Book)
-    (P : LedgerId → Type 0) → IsBooked o first now creating (Some book) → OfLedger o P
-    → (ledger : LedgerId) × (o ≡ Some ledger) × IsBookRight ledger first now creating book × P ledger
+-- who is of the roll that the name has, and the book beside it
+pub book_of : (o : Option TableId) (first : List ℕ) (now : Brokered) (creating : Creating) (book : Book)
+    (P : TableId → Type 0) → IsBooked o first now creating (Some book) → OfRoll o P
+    → (roll : TableId) × (o ≡ Some roll) × IsBookRight roll first now creating book × P roll
 book_of None first now creating book P is of = absurd of
-book_of (Some ledger) first now creating book P is of = (ledger, refl, is, of)
+book_of (Some roll) first now creating book P is of = (roll, refl, is, of)
 
-pub no_book : (o : Option LedgerId) (first : List ℕ) (now : Brokered) (creating : Creating) (P : LedgerId → Type 0)
-    → IsBooked o first now creating None → OfLedger o P → ⊥
+pub no_book : (o : Option TableId) (first : List ℕ) (now : Brokered) (creating : Creating) (P : TableId → Type 0)
+    → IsBooked o first now creating None → OfRoll o P → ⊥
 no_book None first now creating P is of = absurd of
-no_book (Some ledger) first now creating P is of = absurd is
-
--- a book is of the ledger that the name has
-pub book_is : (o : Option LedgerId) (first : List ℕ) (now : Brokered) (creating : Creating) (book : Book)
-    → IsBooked o first now creating (Some book)
-    → (ledger : LedgerId) × (o ≡ Some ledger) × IsBookRight ledger first now creating book
-book_is None first now creating book is = absurd is
-book_is (Some ledger) first now creating book is = (ledger, refl, is)
+no_book (Some roll) first now creating P is of = absurd is
 
 -- once all is handed on, the changes that were handed on make the kept words
-pub booked_handed : (ledger : LedgerId) (first : List ℕ) (now : Brokered) (creating : Creating) (was book : Book)
-    (row batch : List Change) → IsBookRight ledger first now creating was → row ≡ was.ledger.handed
-    → batch ≡ was.notes.changes → book.ledger.id ≡ was.ledger.id → book.ledger.handed ≡ was.ledger.handed ++ batch
-    → book.ledger.told ≡ was.ledger.handed ++ batch → book.notes ≡ record was.notes { changes = [] }
-    → IsBookRight ledger first now creating book × IsMadeBy (row ++ batch) first now.words.kept
-booked_handed ledger first now creating was book row batch right same all id handed told emptied =
-    let made : IsMadeBy (was.ledger.handed ++ batch) first now.words.kept =
-    subst (λ (cs : List Change). IsMadeBy (was.ledger.handed ++ cs) first now.words.kept) (sym all) right.made in (
+pub booked_handed : (roll : TableId) (first : List ℕ) (now : Brokered) (creating : Creating) (was book : Book)
+    (row batch : List Change) → IsBookRight roll first now creating was → row ≡ handed_in was
+    → batch ≡ was.notes.changes → book.roll ≡ was.roll → IsKeeper was.roll ((handed_in was ++ batch) ∷ []) book.keeper
+    → book.notes ≡ record was.notes { changes = [] }
+    → IsBookRight roll first now creating book × IsMadeBy (row ++ batch) first now.words.kept
+booked_handed roll first now creating was book row batch right same all id kept emptied =
+    let made : IsMadeBy (handed_in was ++ batch) first now.words.kept =
+    subst (λ (cs : List Change). IsMadeBy (handed_in was ++ cs) first now.words.kept) (sym all) right.made in
+    let handed : handed_in book ≡ handed_in was ++ batch = ap (λ m. first_row m.0.rows) kept.1 in (
       record {
         same = id ∙ right.same;
-        told = subst (λ (cs : List Change). Begins cs (book.ledger.handed ++ book.notes.changes)) (handed ∙ sym told)
-            (begins_more book.ledger.handed book.notes.changes);
-        made = subst (λ (n : Noting). IsMadeBy (book.ledger.handed ++ n.changes) first now.words.kept) (sym emptied)
-            (subst (λ (cs : List Change). IsMadeBy cs first now.words.kept) (sym (append-nil book.ledger.handed))
+        keeper = subst (λ (cs : List Change). IsKeeper roll (cs ∷ []) book.keeper) (sym handed)
+            (kept.0 ∙ right.same, kept.1);
+        made = subst (λ (n : Noting). IsMadeBy (handed_in book ++ n.changes) first now.words.kept) (sym emptied)
+            (subst (λ (cs : List Change). IsMadeBy cs first now.words.kept) (sym (append-nil (handed_in book)))
             (subst (λ (cs : List Change). IsMadeBy cs first now.words.kept) (sym handed) made));
         promised = subst (λ (n : Noting). to_create creating now.creation ≤ n.promised) (sym emptied) right.promised;
       },
       subst (λ (cs : List Change). IsMadeBy (cs ++ batch) first now.words.kept) (sym same) made,
     )
-
--- a mark is made of all that was noted
-pub booked_marked : (ledger : LedgerId) (first : List ℕ) (now : Brokered) (creating : Creating) (was book : Book)
-    → IsBookRight ledger first now creating was → book.ledger.id ≡ was.ledger.id
-    → book.ledger.handed ≡ was.ledger.handed → book.ledger.told ≡ was.ledger.handed ++ was.notes.changes
-    → book.notes ≡ was.notes → IsBookRight ledger first now creating book
-booked_marked ledger first now creating was book right id handed told notes =
-    let changes : book.notes.changes ≡ was.notes.changes = ap (λ (n : Noting). n.changes) notes in
-    let all : book.ledger.handed ++ book.notes.changes ≡ was.ledger.handed ++ was.notes.changes =
-    ap (λ (cs : List Change). cs ++ book.notes.changes) handed
-    ∙ ap (λ (cs : List Change). was.ledger.handed ++ cs) changes in
-    record {
-      same = id ∙ right.same;
-      told = subst (λ (cs : List Change). Begins cs (book.ledger.handed ++ book.notes.changes)) (all ∙ sym told)
-          (begins_itself (book.ledger.handed ++ book.notes.changes));
-      made = subst (λ (cs : List Change). IsMadeBy cs first now.words.kept) (sym all) right.made;
-      promised = subst (λ (n : Noting). to_create creating now.creation ≤ n.promised) (sym notes) right.promised;
-    }

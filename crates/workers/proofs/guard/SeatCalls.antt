@@ -55,7 +55,7 @@ module _ (all : ℕ) (first : Sessioned) (old : Guarded) (well : IsGuardedWell a
     deeds = old.deeds;
     creating = old.creating;
     rotated = old.rotated;
-    last = old.last;
+    marked = old.marked;
   }
 
   pub guarded_unbegun : (number : ℕ) (call : Call) (refusal : Refusal) (answer : Result (Option Reply) Refusal)
@@ -123,7 +123,7 @@ module _ (all : ℕ) (first : Sessioned) (old : Guarded) (well : IsGuardedWell a
     deeds = old.deeds;
     creating = old.creating;
     rotated = old.rotated;
-    last = old.last;
+    marked = old.marked;
   }
 
   was_followed : IsFollowed since old.session client list

@@ -1,4 +1,5 @@
-use Rattle.std.proofs.Common.{rules, refl, sym, ap, ◌∙◌}
+use Rattle.std.proofs.Common.{rules, refl, ap, ◌∙◌}
+use Rattle.chronicle.specs.Chronicled.{Chronicled}
 use Rattle.chronicle.proofs.Steps.{adds_at}
 use Rattle.chronicle.proofs.Chronicle.note.Goals as goal
 
@@ -12,3 +13,8 @@ invariant_of-self g c =
     let at = c.self.invariant in
     let e = c.compare_exchange_with.ensures in
     record { one = at.one; of = e.0 ∙ at.of; free = ap (λ m. m.1) (e.2 _ refl) ∙ at.free }
+
+pub returns-clause-settled : goal.returns-clause-settled
+returns-clause-settled g c =
+    ap (λ m. m.0.0) (c.compare_exchange_with.ensures.2 _ refl)
+    ∙ ap (λ (v : Chronicled _). v.settled) c.self.view_is

@@ -1,5 +1,4 @@
 use Rattle.std.proofs.Common.{rules, ◌≡◌, Err, IfErr, sym, subst}
-use Rattle.words.specs.declared.refusal.Refusal.{Refusal}
 use Rattle.server.specs.Opening.{IsWhyNotReopenedAnew}
 use Rattle.server.proofs.Anew.{reopened_on, unrenewed_on}
 use Rattle.server.proofs.reopening.reopened_anew.Goals as goal

@@ -1,5 +1,5 @@
 use Rattle.std.proofs.Common.{◌≡◌, refl, subst, ap, sym}
-use Rattle.std.specs.Prelude.{Option, Some, None, Ok, Err, IsSome}
+use Rattle.std.specs.Prelude.{Option, Some, Ok, Err, IsSome}
 use Rattle.words.specs.declared.call.Reply.{Reply}
 use Rattle.words.specs.declared.refusal.Refusal.{Refusal}
 use Rattle.words.specs.declared.refusal.Refusal.TheVariants.{NoMemory}
@@ -55,6 +55,7 @@ returns-in-Err-clause-put_off c memory =
     c.self.view_is c.begin.new.self
     (begun_refused c.self.inside.session c.begin.new.self c.args.slot.0 c.args.client c.args.number c.args.call
     (request_answer c.self.inside.session c.args.slot.0 c.args.client c.args.number)
+    c.self.invariant.broker.well c.in-Err.ensures.promises.broker.well
     (subst (λ (e : Refusal). IsBegunBy c.self.inside.session c.begin.new.self c.args.slot.0 c.args.client c.args.number c.args.call
     (Err e) (request_answer c.self.inside.session c.args.slot.0 c.args.client c.args.number)) none c.in-Err.ensures.begun))
     c.in-Err.ensures.same

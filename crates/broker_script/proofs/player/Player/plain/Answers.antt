@@ -1,5 +1,5 @@
 use Rattle.std.proofs.Common.{◌≡◌, ◌∙◌, refl, sym, subst}
-use Rattle.std.specs.Prelude.{Result, Err, OnErr}
+use Rattle.std.specs.Prelude.{Result, Err}
 use Rattle.words.specs.declared.call.Reply.{Reply}
 use Rattle.words.specs.declared.refusal.Refusal.{Refusal}
 use Rattle.words.specs.declared.refusal.Refusal.TheVariants.{NoMemory}
@@ -26,6 +26,7 @@ returns-clause-put_off c memory =
     c.self.view_is c.plain-answer.new.self
     (served_refused c.self.inside.session c.plain-answer.new.self c.args.slot.0 c.args.client 0 c.args.call
     (plain_answer c.self.inside.session c.args.slot.0 c.args.client)
+    c.self.invariant.broker.well c.plain-answer.ensures.promises.broker.well
     (subst (λ (r : Result Reply Refusal). IsServedBy c.self.inside.session c.plain-answer.new.self c.args.slot.0 c.args.client 0 c.args.call
     r (plain_answer c.self.inside.session c.args.slot.0 c.args.client)) none c.plain-answer.ensures.request))
     c.plain-answer.ensures.same

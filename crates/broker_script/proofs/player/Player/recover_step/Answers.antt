@@ -29,4 +29,5 @@ pub returns-in-Err-clause-put_off : goal.returns-in-Err-clause-put_off
 returns-in-Err-clause-put_off c memory =
     recovery_put_off c.args.self.now
     (record { broker = c.self.inside.session.broker; kept = c.self.inside.session.kept; steps = c.self.inside.steps; creation = c.self.inside.creation; recovery = c.self.inside.recovery; image = c.self.inside.image.items })
-    c.self.view_is c.recover_step.new.self c.in-Err.refusal (cc) c.in-Err.ensures.step c.in-Err.ensures.kept
+    c.self.view_is c.recover_step.new.self c.in-Err.refusal c.self.invariant.broker.well
+    c.in-Err.ensures.promises.broker.well (cc) c.in-Err.ensures.step c.in-Err.ensures.kept

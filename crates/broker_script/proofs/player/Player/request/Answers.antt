@@ -26,6 +26,7 @@ returns-clause-put_off c memory =
     c.self.view_is c.request-answer.new.self
     (served_refused c.self.inside.session c.request-answer.new.self c.args.slot.0 c.args.client c.args.number c.args.call
     (request_answer c.self.inside.session c.args.slot.0 c.args.client c.args.number)
+    c.self.invariant.broker.well c.request-answer.ensures.promises.broker.well
     (subst (λ (r : Result Reply Refusal). IsServedBy c.self.inside.session c.request-answer.new.self c.args.slot.0 c.args.client c.args.number c.args.call
     r (request_answer c.self.inside.session c.args.slot.0 c.args.client c.args.number)) none c.request-answer.ensures.request))
     (subst (λ (r : Result Reply Refusal). OnErr r (c.request-answer.new.self.kept ≡ c.self.inside.session.kept)) none c.request-answer.ensures.same)

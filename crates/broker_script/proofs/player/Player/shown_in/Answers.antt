@@ -1,4 +1,4 @@
-use Rattle.std.proofs.Common.{◌≡◌, ap, sym, subst, refl}
+use Rattle.std.proofs.Common.{ap, sym, subst, refl}
 use Rattle.std.proofs.lemmas.Result.{IfOk-weaker}
 use Rattle.grammar.specs.declared.commands.Command.{Command}
 use Rattle.named.specs.Brokers.{IsWell}

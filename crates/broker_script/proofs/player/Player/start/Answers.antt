@@ -24,5 +24,6 @@ pub returns-in-Err-clause-put_off : goal.returns-in-Err-clause-put_off
 returns-in-Err-clause-put_off c memory =
     start_put_off c.args.self.now
     (record { broker = c.self.inside.session.broker; kept = c.self.inside.session.kept; steps = c.self.inside.steps; creation = c.self.inside.creation; recovery = c.self.inside.recovery; image = c.self.inside.image.items })
-    c.self.view_is c.start.new.self c.args.slot.0 c.args.client c.args.number c.args.call c.in-Err.refusal (cc)
+    c.self.view_is c.start.new.self c.args.slot.0 c.args.client c.args.number c.args.call c.in-Err.refusal
+    c.self.invariant.broker.well c.in-Err.ensures.promises.broker.well (cc)
     c.in-Err.ensures.act c.in-Err.ensures.beside c.in-Err.ensures.kept

@@ -1,4 +1,5 @@
 use Rattle.std.proofs.Common.{[], ◌∷◌, ◌++◌, ap, subst, sym, ◌∙◌}
+use Rattle.chronicle.specs.Chronicled.{entries}
 use Rattle.wire.specs.declared.request.Request.{Request}
 use Rattle.owning.specs.Serving.{Owned}
 use Rattle.arena.specs.Shape.{Counts}
@@ -19,18 +20,18 @@ invariant_of-self g c =
     let request = c.args.request in
     let answer = c.answer_to.result in
     record {
-      leads = leads_more first now new _ _ request _ answer was.leads c.copied.ensures c.note.ensures made;
+      leads = leads_more first now new _ _ request _ answer was.leads c.copied.ensures c.note.ensures.entries made;
       answered =
-          answered_more first.broker.counts.clients _ _ request _ answer was.answered c.copied.ensures c.note.ensures
+          answered_more first.broker.counts.clients _ _ request _ answer was.answered c.copied.ensures c.note.ensures.entries
           (answer_fits now new request answer made) (λ none.
           none_is_told now new request answer made
           (subst (λ (counts : Counts). NamesNoClient counts.clients request) (sym was.goes_on.queues.counts) none));
       goes_on = goes_further first now new was.goes_on c.answer_to.ensures.goes_on;
     }
 
-pub returns : goal.returns
-returns g c =
+pub returns-clause-served : goal.returns-clause-served
+returns-clause-served g c =
     let answer = c.answer_to.result in
-    c.note.ensures
-    ∙ (ap (λ (r : Request). c.self.inside.served ++ (r, answer) ∷ []) c.copied.ensures
-    ∙ ap (λ (o : Owned). o.served ++ (c.args.request, answer) ∷ []) c.self.view_is)
+    c.note.ensures.entries
+    ∙ (ap (λ (r : Request). entries c.self.inside.served ++ (r, answer) ∷ []) c.copied.ensures
+    ∙ ap (λ (o : Owned). entries o.served ++ (c.args.request, answer) ∷ []) c.self.view_is)

@@ -8,7 +8,7 @@ use Rattle.workers.specs.Following.{beginnings}
 use Rattle.workers.proofs.brokers.Comings.{through_renewal}
 use Rattle.workers.proofs.guard.Notes.{booked_none, created_none}
 use Rattle.workers.proofs.guard.Guarded.{named_begun, rows_begun}
-use Rattle.workers.proofs.guard.Laters.{later_renewed, session_further}
+use Rattle.workers.proofs.guard.Laters.{all_later, later_itself, later_renewed, session_further}
 use Rattle.workers.proofs.histories.Renewals.{known_if_renewed, renewal_refused, renewed_empty}
 use Rattle.workers.proofs.guard.Room.{room_when_renewed}
 use Rattle.workers.proofs.locked.Locked.begin_renewed.Goals as goal
@@ -36,7 +36,8 @@ invariant_of-self-2 g c =
             well.promises.broker e.renewed;
         done = subst (λ (rows : List (List Deed)). CameBy g.J.Naming.first.broker rows new.broker)
             (sym (ap (λ m. m.0.rows) k.1)) (renewal well.done well.promises.broker e.renewed);
-        later = later_renewed c.self.inside.last old new c.args.slot.0 well.later e.goes_on well.promises.broker e.renewed;
+        later = all_later c.self.inside.marks old new well.later
+            (later_renewed old old new c.args.slot.0 (later_itself old) e.goes_on well.promises.broker e.renewed);
       },
       (k.0, k.1 ∙ sym (ap (λ m. (keeper m.0.rows, [])) k.1)),
       booked_none g.J.Naming.roll.changes g.J.Naming.first.broker.words.kept old.broker new.broker c.self.inside.creating c.self.inside.creating c.self.inside.book

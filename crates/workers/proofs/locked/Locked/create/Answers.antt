@@ -29,7 +29,7 @@ invariant_of-self-in-Err g c =
         deeds = rows_of c.self.inside.register.keeper;
         creating = c.self.inside.creating;
         rotated = c.self.inside.rotated;
-        last = c.self.inside.last;
+        marked = c.self.inside.marks;
         promised = None;
       }))) same c.self.invariant.1,
       c.self.invariant.2,

@@ -1,4 +1,6 @@
 use Rattle.std.proofs.Common.{[], ◌∷◌, ap, sym, subst, ◌∙◌, length, List, false}
+use Rattle.std.specs.Prelude.{All}
+use Rattle.std.proofs.lemmas.List.Elements.{All-cons, All-nil}
 use Rattle.roll.specs.Rule.{keeper}
 use Rattle.workers.specs.Coming.{CameThrough}
 use Rattle.workers.specs.Deeds.{CameBy}
@@ -31,7 +33,10 @@ invariant_of-result g c =
         done = subst (λ (rows : List (List Deed)). CameBy g.J.Naming.first.broker rows c.args.session.broker)
             (sym (ap (λ m. m.0.rows) r.register.1))
             (subst (λ (s : Sessioned). CameBy s.broker ([] ∷ []) c.args.session.broker) r.first nothing);
-        later = subst (λ (s : Sessioned). GoesOnLater s c.args.session) (r.first ∙ sym r.last) (later_itself c.args.session);
+        later = subst (λ (ms : List Sessioned). All (λ s. GoesOnLater s c.args.session) ms)
+            (ap (λ (s : Sessioned). s ∷ []) r.first ∙ sym r.marks)
+            (All-cons (λ s. GoesOnLater s c.args.session) c.args.session [] (later_itself c.args.session)
+            (All-nil (λ s. GoesOnLater s c.args.session)));
       },
       (r.register.0, r.register.1 ∙ sym (ap (λ m. (keeper m.0.rows, [])) r.register.1)),
       r.book,

@@ -10,7 +10,7 @@ use Rattle.workers.specs.Following.{beginnings}
 use Rattle.workers.proofs.brokers.Comings.{through_rotation}
 use Rattle.workers.proofs.guard.Notes.{booked_same, created_same}
 use Rattle.workers.proofs.guard.Guarded.{known_if_same, named_begun, rows_begun}
-use Rattle.workers.proofs.guard.Laters.{later_rotated, session_further}
+use Rattle.workers.proofs.guard.Laters.{all_later, later_itself, later_rotated, session_further}
 use Rattle.workers.proofs.guard.Refusals.{rotation_refused}
 use Rattle.workers.proofs.histories.Stops.{rotated_empty}
 use Rattle.workers.proofs.locked.Locked.rotate.Goals as goal
@@ -38,7 +38,8 @@ invariant_of-self-2 g c =
         came = through_rotation g.J.Naming.first.broker c.self.inside.rotated old.broker new.broker well.came well.promises.broker e.rotated;
         done = subst (λ (rows : List (List Deed)). CameBy g.J.Naming.first.broker rows new.broker)
             (sym (ap (λ m. m.0.rows) k.1)) (rotation well.done well.promises.broker e.rotated);
-        later = later_rotated c.self.inside.last old new well.later e.goes_on well.promises.broker e.rotated;
+        later = all_later c.self.inside.marks old new well.later
+            (later_rotated old old new (later_itself old) e.goes_on well.promises.broker e.rotated);
       },
       (k.0, k.1 ∙ sym (ap (λ m. (keeper m.0.rows, [])) k.1)),
       booked_same g.J.Naming.roll.changes g.J.Naming.first.broker.words.kept old.broker new.broker c.self.inside.creating c.self.inside.creating c.self.inside.book

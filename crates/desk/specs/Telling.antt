@@ -1,0 +1,76 @@
+-- Replies that the lists of seats have, at sessions that were marked.
+use Rattle.std.specs.Prelude.{◌≡◌, ◌<◌, ℕ, List, None, Option, Some, slice_get}
+use Rattle.words.specs.declared.call.Client.{Client}
+use Rattle.words.specs.declared.call.Kind.TheVariants.{Log as log_kind}
+use Rattle.words.specs.declared.call.Reply.{Reply as AnyReply}
+use Rattle.interleave.specs.State.{State}
+use Rattle.interleave.specs.Verdicts.{IsIdle}
+use Rattle.named.specs.Brokers.{world_at}
+use Rattle.session.specs.Sessions.{Sessioned}
+use Rattle.wire.specs.declared.answer.Answer.{Answer}
+use Rattle.wire.specs.declared.answer.Answer.TheVariants.{Reply}
+use Rattle.wire.specs.declared.request.Request.{Request}
+use Rattle.wire.specs.declared.request.Request.TheVariants.{Put, Take}
+use Rattle.workers.specs.Marks.{IsMarkedBy}
+use Rattle.workers.specs.Moments.{GoesOnLater}
+use Rattle.workers.specs.declared.entry.End.TheVariants.{Answered}
+use Rattle.workers.specs.declared.entry.Entry.{Entry}
+use Rattle.desk.specs.Calls.{asked_in}
+use Rattle.desk.specs.declared.calls.Asked.{Asked}
+
+-- the list has the call that was asked for, with this reply
+pub record HasReply (list : List Entry) (asked : Asked) (reply : AnyReply) : Type 0 where
+  pub index : ℕ
+  pub entry : Entry
+  pub at : slice_get list index ≡ Some entry
+  pub queue : asked.queue ≡ Some entry.name
+  pub number : asked.number ≡ entry.number
+  pub call : asked.call ≡ entry.call
+  pub end : entry.end ≡ Answered reply
+
+-- so has the client's list at a session that was marked, and this session goes on from that one
+pub record IsReplied (first now : Sessioned) (client : Client) (asked : Asked) (reply : AnyReply) : Type 0 where
+  pub list : List Entry
+  pub has : HasReply list asked reply
+  pub session : Sessioned
+  pub marked : IsMarkedBy first client list session
+  pub later : GoesOnLater session now
+
+-- an answer to what a client asks for stands there, if it is a reply
+abbrev pub IsRepliedIf : Sessioned → Sessioned → Client → Option Asked → Answer → Type 0
+IsRepliedIf first now client (Some asked) (Reply reply) = IsReplied first now client asked reply
+IsRepliedIf first now client _ _ = Unit {0}
+
+-- who asks, by a put or a take
+abbrev pub client_in : Request → Client
+client_in (Put client queue value number) = record { 0 = client }
+client_in (Take client queue number) = record { 0 = client }
+client_in _ = record { 0 = 0 }
+
+abbrev pub IsRepliedTo : Sessioned → Sessioned → Request → Answer → Type 0
+IsRepliedTo first now request answer = IsRepliedIf first now (client_in request) (asked_in request) answer
+
+-- so does each answer of these
+pub record AreReplied (first now : Sessioned) (served : List (Request × Answer)) : Type 0 where
+  pub each : (k : ℕ) (request : Request) (answer : Answer) → slice_get served k ≡ Some (request, answer)
+      → IsRepliedTo first now request answer
+
+-- sessions are marked always or never, and the one that is marked now goes on from the one before
+abbrev pub GoesOnMarked : Option Sessioned → Option Sessioned → Type 0
+GoesOnMarked None None = Unit {0}
+GoesOnMarked None (Some now) = ⊥
+GoesOnMarked (Some before) None = ⊥
+GoesOnMarked (Some before) (Some now) = GoesOnLater before now
+
+-- the entry's call, which has this number, ran in a log queue of the session, which is ready, and its client calls
+-- nothing there any more
+pub record RanNumbered (s : Sessioned) (client : Client) (entry : Entry) (number : ℕ) : Type 0 where
+  pub number_is : entry.number ≡ Some number
+  pub place : ℕ
+  pub place_is : entry.place ≡ Some place
+  pub ready : s.broker.recovery ≡ None
+  pub world : State
+  pub here : world_at s.broker entry.queue.0 ≡ Some world
+  pub log : world.shape.kind ≡ log_kind
+  pub few : client.0 < world.shape.clients
+  pub idle : IsIdle world client
