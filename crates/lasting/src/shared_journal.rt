@@ -8,9 +8,10 @@ use devices::Failed;
 use journal_file::{Appender, Storage};
 use std::alloc::Global;
 use std::sync::atomic::{AtomicBool, Ordering};
-use std::sync::{Mutex, Wait};
+use std::sync::{Mutex, MutexGuard, Wait};
 use std::thread::sleep;
 use std::time::{Clock, Duration};
+use waiting::lock;
 use workers::{Assured, Marked, Naming, Shared};
 
 /// How long the thread that keeps each second rests at once: a stop waits for it no longer.
@@ -83,7 +84,7 @@ pub struct SharedJournal<'a, J: Naming, F: Appender + Drop, S: Storage<F>> {
     storage: &'a S,
     policy: Policy,
     failed: AtomicBool,
-    /// This lock is taken before the session's. It is held while the device works, so that a thread sleeps for it.
+    /// This lock is taken before the session's. It is held while the device works.
     place: Mutex<Place<J, F>>,
 }
 
@@ -127,6 +128,15 @@ impl<'a, J: Naming, F: Appender + Drop, S: Storage<F>> SharedJournal<'a, J, F, S
         self.place.into_inner().into_settler()
     }
 
+    /// The place, once it is free. Where nothing is synced under its lock, that is held for one write: then it is tried
+    /// again before a thread sleeps for it.
+    fn locked<R: Wait>(&self, rt: &R) -> MutexGuard<'_, Place<J, F>> {
+        match self.policy {
+            Policy::Always => self.place.lock(rt),
+            Policy::EachSecond | Policy::Never => lock(rt, &self.place),
+        }
+    }
+
     /// Whether it has failed for good. Then nothing is settled any more.
     pub fn has_failed(&self) -> bool {
         self.failed.load(Ordering::SeqCst)
@@ -148,7 +158,7 @@ impl<'a, J: Naming, F: Appender + Drop, S: Storage<F>> SharedJournal<'a, J, F, S
         if self.has_failed() {
             return Err(Failed);
         }
-        let mut place = self.place.lock(rt);
+        let mut place = self.locked(rt);
         let settled = place.settle_up_to(rt, self.alloc, self.shared, self.storage, marked);
         self.note(&place);
         settled
@@ -156,7 +166,7 @@ impl<'a, J: Naming, F: Appender + Drop, S: Storage<F>> SharedJournal<'a, J, F, S
 
     /// Keeps all that was appended, as [`Settler::keep_up`] does.
     pub fn keep_up<R: Wait>(&self, rt: &R) -> Result<(), Failed> {
-        let mut place = self.place.lock(rt);
+        let mut place = self.locked(rt);
         let kept = place.keep_up(self.alloc, self.storage);
         self.note(&place);
         kept
