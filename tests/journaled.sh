@@ -21,7 +21,8 @@ tells() {
 judge 'journaled' "$(tells journaled "$work/killing.so" "$work/refusing.so")"
 judge 'losing power' "$(tells losing_power "$work/killing.so")"
 # Where this user may mount file systems: small ones, filled ones, and such as may not be written.
-if unshare --map-root-user --mount true 2> /dev/null; then
+may_mount='mount -t tmpfs -o size=4096 tmpfs "$0" && mount -o remount,ro "$0" && mount -o remount,rw "$0"'
+if unshare --map-root-user --mount sh -c "$may_mount" "$work" 2> /dev/null; then
     unshare --map-root-user --mount python3 -B tests/mounted.py "$pqd" > "$work/out" 2>&1 || true
     judge 'mounted' "$(difference mounted tests/mounted.txt "$work/out")"
 else
