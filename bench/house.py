@@ -28,16 +28,25 @@ def lines(part, kind, product):
     return sum(text.count("\n") for it in crates if is_product(it) == product for text in texts(it, part, kind))
 
 
+def up_to_end(line, open_braces):
+    """The line up to the end of its clause, and how many braces are open then. Those in a text are none."""
+    for at, sign in enumerate(re.sub(r'"(?:\\.|[^"\\])*"', lambda text: " " * len(text[0]), line)):
+        open_braces += (sign == "{") - (sign == "}")
+        if sign == "}" and open_braces == 0:
+            return line[: at + 1], 0
+    return line, open_braces
+
+
 def clauses(text):
-    """The clauses of a source file, each joined to one line."""
+    """The clauses of a source file, each joined to one line, without a body that follows on the line."""
     found, open_braces = [], 0
     for line in text.splitlines():
         starts = re.match(r"\s*(requires|ensures)\b", line)
         if starts:
             found.append("")
         if starts or open_braces:
-            found[-1] = f"{found[-1]} {line.strip()}".strip()
-            open_braces += line.count("{") - line.count("}")
+            part, open_braces = up_to_end(line.strip(), open_braces)
+            found[-1] = f"{found[-1]} {part}".strip()
     return found
 
 

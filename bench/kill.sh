@@ -1,5 +1,5 @@
 #!/usr/bin/env bash
-# kill.sh [--journal] [MINUTES]: `pqd serve` killed (SIGKILL) at random moments for a minute, or so many. Six clients
+# kill.sh [--journal] [MINUTES]: `pqd serve` killed (SIGKILL) at random moments for a minute, or so many. Eight clients
 # put and take at random in eight queues, four of each kind, and keep their histories. The server is killed while they
 # call, stopped in order, or killed while it stops, and begins again on its image, which is that of the last stop: so
 # what came after it is lost, and nothing else is. Each time a broker on a copy of the image says what each client is

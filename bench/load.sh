@@ -1,5 +1,5 @@
 #!/usr/bin/env bash
-# load.sh [MINUTES]: `pqd serve` under load for a minute, or so many. Six clients put and take at random in eight
+# load.sh [MINUTES]: `pqd serve` under load for a minute, or so many. Eight clients put and take at random in eight
 # queues, four of each kind, and keep their histories, while another connection crashes and recovers the broker now and
 # then. When calls are used up, or the time is, all that is left is taken, and each queue's history must be explained by
 # a first-in-first-out order: nothing lost, nothing doubled, nothing overtaken, no empty answer while a value was there.

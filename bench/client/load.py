@@ -14,7 +14,7 @@ from collections import Counter
 import histories
 from histories import Put, Take
 
-PLAYERS = 6
+PLAYERS = 8
 CLIENTS = 16
 RECORDS = int(os.environ.get("RECORDS", 4096))
 KINDS = {f"q{n}": "durable" if n % 2 == 0 else "log" for n in range(8)}
@@ -48,7 +48,9 @@ class Server:
     """A running `pqd serve`, begun as `started` says."""
 
     def __init__(self, pqd, image, records=RECORDS, options=(), **started):
-        words = [pqd, "serve", "--clients", str(CLIENTS), "--records", str(records), "--port", "0", "--workers", "8"]
+        # A worker for each player, and for whoever crashes the broker meanwhile.
+        words = [pqd, "serve", "--clients", str(CLIENTS), "--records", str(records), "--port", "0"]
+        words += ["--workers", str(PLAYERS + 1)]
         self.process = subprocess.Popen([*words, "--image", image, *options], stdout=subprocess.PIPE, **started)
         self.listen()
 

@@ -1,4 +1,4 @@
-"""million.py PQD PAIRS: what bench/million.sh does."""
+"""million.py PQD RECORDS PAIRS: what bench/million.sh does."""
 
 import multiprocessing
 import re
@@ -8,7 +8,6 @@ import sys
 import time
 
 CONNECTIONS = 8
-RECORDS = 256
 AT_ONCE = 16
 STAGES = [10_000, 100_000]
 GOT = re.compile(rb'^\{"got":"([0-9a-f]{2})([0-9a-f]{8})","reply":"got"\}$')
@@ -87,8 +86,10 @@ def ask(port, line):
     return reply
 
 
-def main(pqd, pairs):
-    words = [pqd, "serve", "--renew", "--clients", CONNECTIONS, "--records", RECORDS, "--port", 0, "--workers", 9]
+def main(pqd, records, pairs):
+    # As many workers as connections: one more would begin with some later connection, and take a stack of its own then.
+    words = [pqd, "serve", "--renew", "--clients", CONNECTIONS, "--records", records, "--port", 0]
+    words += ["--workers", CONNECTIONS]
     server = subprocess.Popen(list(map(str, words)), stdout=subprocess.PIPE, text=True)
     try:
         port = int(re.search(r"(\d+)\s*$", server.stdout.readline())[1])
@@ -109,7 +110,7 @@ def main(pqd, pairs):
 
 
 try:
-    main(sys.argv[1], int(sys.argv[2]))
+    main(sys.argv[1], sys.argv[2], int(sys.argv[3]))
 except Wrong as wrong:
     print("wrong:", wrong)
     sys.exit(1)

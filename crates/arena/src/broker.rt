@@ -2,7 +2,7 @@
 
 ghost use Rattle.std.specs.Prelude.{◌≡◌, ◌↔◌, ◌⊎◌, ℕ, ◌+◌, ◌<◌, ◌≤◌, IfOk, IfErr, IsOk, MatchOption, Err, Ok, Some};
 ghost use Rattle.arena.specs.Shape.{shape_of};
-ghost use Rattle.arena.specs.Limits.{AreCounts};
+ghost use Rattle.arena.specs.Limits.{AreBadRecords, AreCounts};
 ghost use Rattle.arena.specs.Layout.{size_of};
 ghost use Rattle.arena.specs.Broker.{block_from_in, block_size_in, broker_size_in, block_size_of, block_from, broker_size, broker_word, broker_place, directory_from, directory_place, IsBrokerPlace};
 
@@ -107,8 +107,7 @@ impl BrokerLayout {
         ensures ok { IsOk result ↔ AreCounts clients records }
         ensures made { IfOk result (λ l. l ≡ record { clients = clients; records = records }) }
         ensures bad_clients { result ≡ Err Refusal.BadClients ↔ ((clients ≡ 0) ⊎ (MAX_CLIENTS < clients)) }
-        ensures bad_records { result ≡ Err Refusal.BadRecords ↔
-            ((1 ≤ clients) × (clients ≤ MAX_CLIENTS) × ((records ≡ 0) ⊎ (MAX_RECORDS < records))) }
+        ensures bad_records { result ≡ Err Refusal.BadRecords ↔ AreBadRecords clients records }
         ensures errors { IfErr result (λ e. (e ≡ Refusal.BadClients) ⊎ (e ≡ Refusal.BadRecords)) }
     {
         check_counts(clients, records)?;

@@ -3,7 +3,7 @@
 ghost use Rattle.std.specs.Prelude.{◌≡◌, ◌↔◌, ◌⊎◌, ◌<◌, ◌≤◌, IfOk, IfErr, IsOk, Err};
 ghost use Rattle.arena.specs.Answers.{empty_answer_of, result_of};
 ghost use Rattle.arena.specs.Layout.{word_at, place_at, size_of};
-ghost use Rattle.arena.specs.Limits.{AreCounts};
+ghost use Rattle.arena.specs.Limits.{AreBadRecords, AreCounts};
 ghost use Rattle.arena.specs.Place.{IsPlace};
 ghost use Rattle.arena.specs.Shape.{greatest};
 
@@ -42,8 +42,7 @@ impl Model for Layout {
 pub(crate) fn check_counts(clients: u32, records: u32) -> Result<(), Refusal>
     ensures ok { IsOk result ↔ AreCounts clients records }
     ensures bad_clients { result ≡ Err Refusal.BadClients ↔ ((clients ≡ 0) ⊎ (MAX_CLIENTS < clients)) }
-    ensures bad_records { result ≡ Err Refusal.BadRecords ↔
-        ((1 ≤ clients) × (clients ≤ MAX_CLIENTS) × ((records ≡ 0) ⊎ (MAX_RECORDS < records))) }
+    ensures bad_records { result ≡ Err Refusal.BadRecords ↔ AreBadRecords clients records }
     ensures errors { IfErr result (λ e. (e ≡ Refusal.BadClients) ⊎ (e ≡ Refusal.BadRecords)) }
 {
     if clients == 0 || clients > MAX_CLIENTS as u32 {
@@ -62,8 +61,7 @@ impl Layout {
         ensures ok { IsOk result ↔ AreCounts clients records }
         ensures made { IfOk result (λ l. l ≡ record { kind = kind; clients = clients; records = records }) }
         ensures bad_clients { result ≡ Err Refusal.BadClients ↔ ((clients ≡ 0) ⊎ (MAX_CLIENTS < clients)) }
-        ensures bad_records { result ≡ Err Refusal.BadRecords ↔
-            ((1 ≤ clients) × (clients ≤ MAX_CLIENTS) × ((records ≡ 0) ⊎ (MAX_RECORDS < records))) }
+        ensures bad_records { result ≡ Err Refusal.BadRecords ↔ AreBadRecords clients records }
         ensures errors { IfErr result (λ e. (e ≡ Refusal.BadClients) ⊎ (e ≡ Refusal.BadRecords)) }
     {
         check_counts(clients, records)?;

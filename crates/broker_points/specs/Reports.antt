@@ -17,10 +17,14 @@ abbrev pub told_texts : State → ℕ → List ℕ
 told_texts w zero = []
 told_texts w (suc client) = told_texts w client ++ (told_lead client ++ told_text (told_at w client))
 
+-- what all clients of a queue are
+abbrev pub all_told_text : Brokered → ℕ → List ℕ
+all_told_text b slot = told_texts (the_world b slot) b.counts.clients
+
 -- a queue: what each client is told, and what it holds
 abbrev pub queue_text : Brokered → ℕ → List ℕ → List ℕ
 queue_text b slot name =
-    codes "; " ++ name ++ codes ": told" ++ told_texts (the_world b slot) b.counts.clients
+    codes "; " ++ name ++ codes ": told" ++ all_told_text b slot
     ++ content_text (kept_content (the_world b slot))
 
 -- each queue, in slot order
@@ -29,9 +33,15 @@ place_text b slot (Some (Some queue)) = queue_text b slot queue.name
 place_text b slot (Some None) = []
 place_text b slot None = []
 
+abbrev pub slot_text : Brokered → ℕ → List ℕ
+slot_text b slot = place_text b slot (slice_get b.directory slot)
+
 abbrev pub places_text : Brokered → ℕ → List ℕ
 places_text b zero = []
-places_text b (suc slot) = places_text b slot ++ place_text b slot (slice_get b.directory slot)
+places_text b (suc slot) = places_text b slot ++ slot_text b slot
+
+abbrev pub queues_text : Brokered → List ℕ
+queues_text b = places_text b (length b.directory)
 
 -- the line of a point, in its parts
 abbrev pub start_text : ℕ → ℕ → List ℕ
@@ -39,7 +49,7 @@ start_text number steps = codes "point " ++ (decimal number ++ (codes ": recover
 
 abbrev pub line_of_point : ℕ → Played → Bool → List ℕ
 line_of_point number p ok =
-    start_text number p.recovery ++ places_text p.broker (length p.broker.directory) ++ end_text ok
+    start_text number p.recovery ++ queues_text p.broker ++ end_text ok
 
 -- of one that is ok
 abbrev pub point_text : ℕ → Played → List ℕ

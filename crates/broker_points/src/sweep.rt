@@ -3,7 +3,7 @@
 ghost use Rattle.std.specs.Prelude.{◌≡◌, ◌+◌, ◌-◌, ◌<◌, ◌≤◌, ◌++◌, IsTrue, OnOk, IfOk, IfErr, length, map};
 ghost use Rattle.std.specs.List.{range_with_len};
 ghost use Rattle.broker_script.specs.Grammar.{IsServedBroker};
-ghost use Rattle.broker_points.specs.Sweep.{AreOk, ArePointsOf, IsPointOf};
+ghost use Rattle.broker_points.specs.Sweep.{AreAllPointsOf, AreOk, ArePointsOf, IsPointOf};
 
 use crate::point::{Point, crash};
 use broker_script::{BrokerLine, Statement};
@@ -98,7 +98,7 @@ pub(crate) fn all_points<R: Threads + Sync, W: Watch>(
 ) -> Result<Vec<Point>, Refusal>
     requires { IsServedBroker schedule.now.broker }
     ensures points { IfOk result
-        (λ points. ArePointsOf schedule.now (range_with_len 0 (length schedule.now.acts.items + 1)) points.items) }
+        (λ points. AreAllPointsOf schedule.now points.items) }
     ensures ok { IfOk result (λ points. AreOk points.items) }
     ensures errors { IfErr result (λ e. e ≡ Refusal.NoMemory) }
 {

@@ -1,13 +1,13 @@
 //! The line of a point, as text.
 
-ghost use Rattle.std.specs.Prelude.{◌≡◌, ◌++◌, ◌<◌, ◌≤◌, None, OnOk, IfOk, IfErr, IsSome, length, slice_get, string_bytes};
+ghost use Rattle.std.specs.Prelude.{◌≡◌, ◌++◌, ◌<◌, ◌≤◌, None, OnOk, IfOk, IfErr, IsSome, slice_get, string_bytes};
 ghost use Rattle.words.specs.Text.{told_text};
 ghost use Rattle.interleave.specs.State.{kept_content};
 ghost use Rattle.named.specs.Brokers.{world_at, IsWell};
 ghost use Rattle.playing.specs.Transcript.{told_at};
 ghost use Rattle.explore.specs.Reports.{content_text, end_text};
 ghost use Rattle.broker_script.specs.Play.{the_world};
-ghost use Rattle.broker_points.specs.Reports.{line_of_point, place_text, places_text, queue_text, start_text, told_lead, told_texts};
+ghost use Rattle.broker_points.specs.Reports.{all_told_text, line_of_point, queue_text, queues_text, slot_text, start_text, told_lead};
 
 use arena::{SLOTS, SlotId};
 use broker_script::Player;
@@ -50,7 +50,7 @@ fn write_told(text: &mut String, broker: &Broker, slot: SlotId) -> Result<(), Re
     requires ready { broker.now.recovery ≡ None }
     requires open { IsSome (world_at broker.now slot.0) }
     ensures text { OnOk result (string_bytes text.new
-        ≡ string_bytes text.old ++ told_texts (the_world broker.now slot.0) broker.now.counts.clients) }
+        ≡ string_bytes text.old ++ all_told_text broker.now slot.0) }
     ensures errors { IfErr result (λ e. e ≡ Refusal.NoMemory) }
 {
     for number in 0..broker.clients() {
@@ -94,7 +94,7 @@ fn write_place(
     requires small { slot < SLOTS }
     requires place { slice_get broker.now.directory slot ≡ Some place.now }
     ensures text { OnOk result (string_bytes text.new
-        ≡ string_bytes text.old ++ place_text broker.now slot (slice_get broker.now.directory slot)) }
+        ≡ string_bytes text.old ++ slot_text broker.now slot) }
     ensures errors { IfErr result (λ e. e ≡ Refusal.NoMemory) }
 {
     match place {
@@ -109,7 +109,7 @@ fn write_places(text: &mut String, broker: &Broker, places: &Places) -> Result<(
     requires ready { broker.now.recovery ≡ None }
     requires places { places.now ≡ broker.now.directory }
     ensures text { OnOk result (string_bytes text.new
-        ≡ string_bytes text.old ++ places_text broker.now (length broker.now.directory)) }
+        ≡ string_bytes text.old ++ queues_text broker.now) }
     ensures errors { IfErr result (λ e. e ≡ Refusal.NoMemory) }
 {
     for slot in 0..SLOTS {

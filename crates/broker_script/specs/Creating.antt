@@ -19,6 +19,11 @@ use Rattle.broker_script.specs.declared.printed.Printed.TheVariants.{Whole, Crea
 abbrev pub HasSomeQueue : Directory → ℕ → Type 0
 HasSomeQueue directory slot = (queue : Queue) × HasQueue directory slot queue
 
+-- the line of the queue that a creation opened there
+abbrev pub ShowsCreated : Played → SlotId → List Printed → Type 0
+ShowsCreated p slot lines =
+    (queue : Queue) × HasQueue p.broker.directory slot.0 queue × (lines ≡ Created queue.name slot p.creation ∷ [])
+
 -- a step of the creation that is under way, or why there is none
 pub record IsCreationStep (old : Brokered) (result : Result (Option SlotId) Refusal) (new : Brokered) : Type 0 where
   pub down : is_down old ≡ true → result ≡ Err NotReady

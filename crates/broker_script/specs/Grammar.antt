@@ -35,6 +35,10 @@ abbrev pub call_words : Call → List (List ℕ)
 call_words (enq_call value) = codes "enq" ∷ value_text value ∷ []
 call_words deq_call = codes "deq" ∷ []
 
+-- a client's call with its number, as it follows what is asked
+abbrev pub numbered_call_words : ℕ → ℕ → Call → List (List ℕ)
+numbered_call_words client number call = decimal client ∷ decimal number ∷ call_words call
+
 -- `request C N CALL`, `plain C CALL`, `begin C N CALL`
 abbrev pub ask_words : Ask → List (List ℕ)
 ask_words (Request client number call) = codes "request" ∷ decimal client.0 ∷ decimal number ∷ call_words call

@@ -1,5 +1,5 @@
 -- Scripts without `again`, of which no line is put off.
-use Rattle.std.specs.Prelude.{◌≡◌, Bool, true, false, List, [], ◌∷◌, ◌++◌, Option, Some, None, filter}
+use Rattle.std.specs.Prelude.{◌≡◌, ◌≢◌, All, Bool, true, false, List, [], ◌∷◌, ◌++◌, Option, Some, None, filter}
 use Rattle.words.specs.declared.refusal.Refusal.TheVariants.{NoMemory}
 use Rattle.grammar.specs.declared.commands.Command.TheVariants.{Again}
 use Rattle.playing.specs.declared.lines.Line.TheVariants.{Refused}
@@ -20,6 +20,10 @@ is_act _ = true
 
 abbrev pub without_again : List Statement → List Statement
 without_again statements = filter is_act statements
+
+-- no act is made again
+abbrev pub HasNoAgain : List Statement → Type 0
+HasNoAgain statements = All (λ statement. statement ≢ Whole Again) statements
 
 -- lines without those that say that memory was refused
 abbrev pub is_answer : Printed → Bool
@@ -42,3 +46,8 @@ abbrev pub ArePlainLinesOf : Option BrokerLine → List Statement → List Print
 ArePlainLinesOf None statements lines = lines ≡ []
 ArePlainLinesOf (Some broker) statements lines =
     IsPlayedBy FollowsPlainly (counts_by broker) statements lines
+
+-- lines without refusals are such lines of the script without its lines `again`
+abbrev pub ArePlainButForRefusals : Option BrokerLine → List Statement → List Printed → Type 0
+ArePlainButForRefusals broker statements lines =
+    ArePlainLinesOf broker (without_again statements) (without_refusals lines)

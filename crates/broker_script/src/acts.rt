@@ -3,8 +3,8 @@
 ghost use Rattle.std.specs.Prelude.{◌≡◌, ◌++◌, ◌∷◌, [], Some, OnOk, IfOk, IfErr, List, not, replicate};
 ghost use Rattle.broker_script.specs.Play.{Played, new_played};
 ghost use Rattle.broker_script.specs.declared.statements.Statement.{Statement};
-ghost use Rattle.broker_script.specs.Acts.{act_of, attempts_of, beginning, plain_command, steps_of, is_refusal, is_refused, most_recovery, says_refused, times_of, AreActsOf, Attempts, IsAttempted};
-ghost use Rattle.broker_script.specs.Made.{Adds};
+ghost use Rattle.broker_script.specs.Acts.{act_of, beginning, plain_command, steps_of, is_refusal, is_refused, most_recovery, says_refused, times_of, AreActsOf, Attempts, IsAttempted};
+ghost use Rattle.broker_script.specs.Made.{Adds, AddsActsOf};
 
 use crate::asking::asker;
 use crate::player::Player;
@@ -142,9 +142,7 @@ fn create(
     kind: Kind,
     most: u32,
 ) -> Result<(), Refusal>
-    ensures acts { OnOk result (Adds player.old
-        (Statement.BeginCreation name.now kind 0 ∷ replicate most Statement.CreateStep)
-        acts.old.items acts.new.items player.new) }
+    ensures acts { OnOk result (AddsActsOf (Statement.BeginCreation name.now kind most) player.old acts.old.items acts.new.items player.new) }
     ensures errors { IfErr result (λ e. e ≡ Refusal.NoMemory) }
 {
     let first = Statement::BeginCreation {
@@ -213,8 +211,7 @@ fn ask_for(
     name: &Name,
     ask: &Ask,
 ) -> Result<(), Refusal>
-    ensures acts { OnOk result (Adds player.old (attempts_of (Statement.Asks name.now ask.now))
-        acts.old.items acts.new.items player.new) }
+    ensures acts { OnOk result (AddsActsOf (Statement.Asks name.now ask.now) player.old acts.old.items acts.new.items player.new) }
     ensures errors { IfErr result (λ e. e ≡ Refusal.NoMemory) }
 {
     let first = beginning(name, ask);
@@ -264,7 +261,7 @@ fn follow(
     statement: &Statement,
 ) -> Result<(), Refusal>
     ensures acts { OnOk result
-        (Adds player.old (attempts_of statement.now) acts.old.items acts.new.items player.new) }
+        (AddsActsOf statement.now player.old acts.old.items acts.new.items player.new) }
     ensures errors { IfErr result (λ e. e ≡ Refusal.NoMemory) }
 {
     match statement {

@@ -1,11 +1,10 @@
 //! Creations of a broker that follows a script.
 
-ghost use Rattle.std.specs.Prelude.{◌≡◌, ◌∷◌, [], IfOk, IfErr, IfSome, IfNone, IsSome, None};
+ghost use Rattle.std.specs.Prelude.{◌≡◌, IfOk, IfErr, IfSome, IfNone, IsSome, None};
 ghost use Rattle.directory.specs.Directory.{HasQueue};
 ghost use Rattle.directory.specs.declared.queue.Queue.{Queue as Place};
-ghost use Rattle.broker_script.specs.Creating.{BeginsCreation, Creates, HasSomeQueue, IsBegunOn, IsCreatedOn};
+ghost use Rattle.broker_script.specs.Creating.{BeginsCreation, Creates, HasSomeQueue, IsBegunOn, IsCreatedOn, ShowsCreated};
 ghost use Rattle.broker_script.specs.PutOff.{PutsOff};
-ghost use Rattle.broker_script.specs.declared.printed.Printed.TheVariants.{Created};
 
 use crate::lines::Room;
 use crate::player::Player;
@@ -36,8 +35,7 @@ impl Player {
     fn show_created(&self, room: Room, slot: SlotId) -> Vec<Printed>
         requires ready { self.now.broker.recovery ≡ None }
         requires opened { HasSomeQueue self.now.broker.directory slot.0 }
-        ensures line { (queue : Place) × HasQueue self.now.broker.directory slot.0 queue
-            × (result.items ≡ Created queue.name slot self.now.creation ∷ []) }
+        ensures line { ShowsCreated self.now slot result.items }
     {
         let queue = self.queue_in(slot).unwrap();
         room.fill(Printed::Created {

@@ -1,12 +1,12 @@
 //! What a broker prints that follows a script.
 
-ghost use Rattle.std.specs.Prelude.{◌≡◌, ◌++◌, ◌∷◌, [], Ok, IfOk, IfErr, List, Some, false, true, slice_get};
+ghost use Rattle.std.specs.Prelude.{◌≡◌, ◌++◌, ◌∷◌, [], Ok, IfOk, IfErr, Some, false, true, slice_get};
 ghost use Rattle.broker_script.specs.Grammar.{counts_by, IsServedBroker};
+ghost use Rattle.broker_script.specs.Made.{AddsGiven};
 ghost use Rattle.broker_script.specs.Play.{new_played};
 ghost use Rattle.broker_script.specs.Prints.{text_of};
 ghost use Rattle.broker_script.specs.PutOff.{no_memory, IsPutOff};
-ghost use Rattle.broker_script.specs.Transcript.{AreLinesOf, FollowsAll, FollowsLine, IsPlayedOn, IsTranscript};
-ghost use Rattle.broker_script.specs.declared.printed.Printed.{Printed as printed};
+ghost use Rattle.broker_script.specs.Transcript.{AreLinesOf, FollowsAll, IsPlayedOn, IsTranscript};
 ghost use Rattle.broker_script.specs.declared.statements.Statement.{Statement};
 ghost use Rattle.grammar.specs.declared.commands.Command.{Command};
 
@@ -41,10 +41,10 @@ fn follow(
     statement: &Statement,
     again: bool,
 ) -> Result<bool, Refusal>
-    ensures followed { result ≡ Ok false → (given : List printed)
-        × FollowsLine player.old statement.now given player.new × (lines.new.items ≡ lines.old.items ++ given) }
-    ensures put_off { result ≡ Ok true → IsPutOff player.old player.new
-        × (lines.new.items ≡ lines.old.items ++ no_memory ∷ []) }
+    ensures followed { result ≡ Ok false
+        → AddsGiven statement.now player.old lines.old.items lines.new.items player.new }
+    ensures put_off { result ≡ Ok true → IsPutOff player.old player.new }
+    ensures line { result ≡ Ok true → lines.new.items ≡ lines.old.items ++ no_memory ∷ [] }
     ensures again { result ≡ Ok true → again ≡ true }
     ensures errors { IfErr result (λ e. e ≡ Refusal.NoMemory) }
 {

@@ -1,6 +1,6 @@
 //! The lines that are served, a row for each.
 
-ghost use Rattle.std.specs.Prelude.{◌≡◌, ◌≢◌, ◌∷◌, [], ℕ, List, MatchOption, decimal};
+ghost use Rattle.std.specs.Prelude.{◌≡◌, ◌≢◌, ◌∷◌, [], List, MatchOption, decimal};
 ghost use Rattle.words.specs.declared.call.Call.{Call};
 ghost use Rattle.words.specs.declared.call.Client.{Client};
 ghost use Rattle.words.specs.declared.call.Kind.{Kind};
@@ -10,8 +10,8 @@ ghost use Rattle.grammar.specs.Limits.{IsWithin};
 ghost use Rattle.grammar.specs.Lines.{words_of};
 ghost use Rattle.grammar.specs.Reading.{Reads, Reads₂, Reads₃, SaysNone, SaysNone₂, SaysNone₃};
 ghost use Rattle.grammar.specs.declared.commands.Command.{Command};
-ghost use Rattle.broker_script.specs.Grammar.{call_words, is_whole, label, IsServedCall, SaysAsk, SaysBroker, SaysStatement};
-ghost use Rattle.broker_script.specs.Rows.{IsNoCreation, IsOfNoBroker, IsOfNoImage, IsOfNoQueue, StandsAlone};
+ghost use Rattle.broker_script.specs.Grammar.{call_words, is_whole, label, numbered_call_words, IsServedCall, SaysAsk, SaysBroker, SaysStatement};
+ghost use Rattle.broker_script.specs.Rows.{IsNoCreation, IsOfNoBroker, IsOfNoImage, IsOfNoQueue, ReadsFirst, ReadsKindAndSteps};
 ghost use Rattle.broker_script.specs.declared.statements.Ask.{Ask};
 ghost use Rattle.broker_script.specs.declared.statements.BrokerLine.{BrokerLine};
 ghost use Rattle.broker_script.specs.declared.statements.Statement.{Statement};
@@ -48,8 +48,7 @@ fn one_name(text: &[u8]) -> Option<Name>
 
 /// The name that a text begins with, and what follows it.
 fn name_first(text: &[u8]) -> Option<(Name, &[u8])>
-    ensures { MatchOption result (StandsAlone (λ name. name) IsName (words_of text.now))
-        (λ r. (words_of text.now ≡ r.0 ∷ words_of r.1.now) × IsName r.0) }
+    ensures { ReadsFirst (λ name. name) IsName text.now result }
 {
     let (word, rest) = first_word(text);
     let rest = rest?;
@@ -72,8 +71,7 @@ fn labelled(word: &[u8]) -> Option<Name>
 
 /// The name that labels a line, and what follows it.
 fn label_first(line: &[u8]) -> Option<(Name, &[u8])>
-    ensures { MatchOption result (StandsAlone label IsName (words_of line.now))
-        (λ r. (words_of line.now ≡ label r.0 ∷ words_of r.1.now) × IsName r.0) }
+    ensures { ReadsFirst label IsName line.now result }
 {
     let (word, rest) = first_word(line);
     let rest = rest?;
@@ -98,9 +96,7 @@ fn one_kind(text: &[u8]) -> Option<Kind>
 
 /// The kind and the number of steps that are all of a text.
 fn kind_and_steps(text: &[u8]) -> Option<(Kind, u64)>
-    ensures { MatchOption result
-        ((kind : Kind) (n : ℕ) → IsWithin STEPS n → words_of text.now ≢ kind_word kind ∷ decimal n ∷ [])
-        (λ r. (words_of text.now ≡ kind_word r.0 ∷ decimal r.1 ∷ []) × IsWithin STEPS r.1) }
+    ensures { ReadsKindAndSteps (words_of text.now) result }
 {
     let Some((kind, rest)) = kind(text) else {
         return None;
@@ -285,8 +281,7 @@ fn told(line: &[u8]) -> Option<Statement>
 
 /// The number that a text begins with, and what follows it.
 fn number_first(text: &[u8], limits: Limits) -> Option<(u64, &[u8])>
-    ensures { MatchOption result (StandsAlone decimal (IsWithin limits) (words_of text.now))
-        (λ r. (words_of text.now ≡ decimal r.0 ∷ words_of r.1.now) × IsWithin limits r.0) }
+    ensures { ReadsFirst decimal (IsWithin limits) text.now result }
 {
     let (word, rest) = first_word(text);
     let rest = rest?;
@@ -321,8 +316,7 @@ fn number_and_call(text: &[u8], limits: Limits) -> Option<(u64, Call)>
 
 /// A number of a client, that of its call, and the call, which are all of a text.
 fn numbered_call(text: &[u8]) -> Option<(u64, u64, Call)>
-    ensures { Reads₃ (λ client number call. decimal client ∷ decimal number ∷ call_words call)
-        (IsWithin CLIENT) (IsWithin NUMBER) IsServedCall (words_of text.now) result }
+    ensures { Reads₃ numbered_call_words (IsWithin CLIENT) (IsWithin NUMBER) IsServedCall (words_of text.now) result }
 {
     let Some((client, rest)) = number_first(text, CLIENT) else {
         return None;

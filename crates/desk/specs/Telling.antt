@@ -1,11 +1,7 @@
 -- Replies that the lists of seats have, at sessions that were marked.
-use Rattle.std.specs.Prelude.{◌≡◌, ◌<◌, ℕ, List, None, Option, Some, slice_get}
+use Rattle.std.specs.Prelude.{◌≡◌, ℕ, List, None, Option, Some, slice_get}
 use Rattle.words.specs.declared.call.Client.{Client}
-use Rattle.words.specs.declared.call.Kind.TheVariants.{Log as log_kind}
 use Rattle.words.specs.declared.call.Reply.{Reply as AnyReply}
-use Rattle.interleave.specs.State.{State}
-use Rattle.interleave.specs.Verdicts.{IsIdle}
-use Rattle.named.specs.Brokers.{world_at}
 use Rattle.session.specs.Sessions.{Sessioned}
 use Rattle.wire.specs.declared.answer.Answer.{Answer}
 use Rattle.wire.specs.declared.answer.Answer.TheVariants.{Reply}
@@ -61,16 +57,3 @@ GoesOnMarked None None = Unit {0}
 GoesOnMarked None (Some now) = ⊥
 GoesOnMarked (Some before) None = ⊥
 GoesOnMarked (Some before) (Some now) = GoesOnLater before now
-
--- the entry's call, which has this number, ran in a log queue of the session, which is ready, and its client calls
--- nothing there any more
-pub record RanNumbered (s : Sessioned) (client : Client) (entry : Entry) (number : ℕ) : Type 0 where
-  pub number_is : entry.number ≡ Some number
-  pub place : ℕ
-  pub place_is : entry.place ≡ Some place
-  pub ready : s.broker.recovery ≡ None
-  pub world : State
-  pub here : world_at s.broker entry.queue.0 ≡ Some world
-  pub log : world.shape.kind ≡ log_kind
-  pub few : client.0 < world.shape.clients
-  pub idle : IsIdle world client

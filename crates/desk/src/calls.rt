@@ -141,8 +141,8 @@ pub fn answer_at_seat<J: Naming, R: Wait>(
     ensures nameless { IfSome (asked_in request) (λ asked.
         IsNone asked.queue → IsTrue (is_nameless_refusal result.1)) }
     ensures fits { IfSome (asked_in request) (λ asked. IsTrue (is_call_answer result.1)) }
-    ensures other { IfNone (asked_in request)
-        ((result.1 ≡ AnyAnswer.Refused Refusal.BadRequest) × (result.0.list.items ≡ seat.list.items)) }
+    ensures other { IfNone (asked_in request) (result.1 ≡ AnyAnswer.Refused Refusal.BadRequest) }
+    ensures other_list { IfNone (asked_in request) (result.0.list.items ≡ seat.list.items) }
 {
     match asked_in(request) {
         Some(asked) => call_at_seat(rt, shared, seat, asked),

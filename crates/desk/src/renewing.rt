@@ -1,8 +1,8 @@
 //! Puts and takes, of which one that finds no room is made once more in fresh records.
 
 ghost use Rattle.std.specs.Prelude.{◌≡◌, ◌<◌, ◌≤◌, IfErr, IfOk, IfSome, IsNone, IsTrue};
-ghost use Rattle.desk.specs.Calls.{asked_in};
-ghost use Rattle.desk.specs.Requests.{is_call_answer, is_nameless_call_answer, is_no_room};
+ghost use Rattle.desk.specs.Calls.{asked_in, IsNamelessAnswer};
+ghost use Rattle.desk.specs.Requests.{is_call_answer, is_no_room};
 ghost use Rattle.desk.specs.Telling.{GoesOnMarked, IsRepliedIf};
 ghost use Rattle.desk.specs.Worth.{IsWorthIt};
 ghost use Rattle.wire.specs.declared.answer.Answer.{Answer as AnyAnswer};
@@ -45,8 +45,7 @@ impl<J: Naming> Renewed<J> {
         request: &Request,
     ) -> Answer
         ensures fits { IfSome (asked_in request.now) (λ asked. IsTrue (is_call_answer result)) }
-        ensures nameless { IfSome (asked_in request.now) (λ asked.
-            IsNone asked.queue → IsTrue (is_nameless_call_answer result)) }
+        ensures nameless { IsNamelessAnswer request.now result }
         ensures told { IfSome counter.new.marked (λ now.
             IsRepliedIf J.first now client (asked_in request.now) result) }
         ensures later { GoesOnMarked counter.old.marked counter.new.marked }
@@ -65,8 +64,7 @@ impl<J: Naming> Counter<'_, J> {
     /// (Busy), and as [`answer_at_seat`] is.
     fn call_once<R: Wait>(&mut self, rt: &R, client: Client, request: &Request) -> Answer
         ensures fits { IfSome (asked_in request.now) (λ asked. IsTrue (is_call_answer result)) }
-        ensures nameless { IfSome (asked_in request.now) (λ asked.
-            IsNone asked.queue → IsTrue (is_nameless_call_answer result)) }
+        ensures nameless { IsNamelessAnswer request.now result }
         ensures told { IfSome self.new.marked (λ now.
             IsRepliedIf J.first now client (asked_in request.now) result) }
         ensures later { GoesOnMarked self.old.marked self.new.marked }
@@ -119,8 +117,7 @@ impl<J: Naming> Counter<'_, J> {
     fn call_at_rest<R: Wait>(&mut self, rt: &R, client: Client, request: &Request) -> Answer
         requires { client.0 < J.clients }
         ensures fits { IfSome (asked_in request.now) (λ asked. IsTrue (is_call_answer result)) }
-        ensures nameless { IfSome (asked_in request.now) (λ asked.
-            IsNone asked.queue → IsTrue (is_nameless_call_answer result)) }
+        ensures nameless { IsNamelessAnswer request.now result }
         ensures told { IfSome self.new.marked (λ now.
             IsRepliedIf J.first now client (asked_in request.now) result) }
         ensures later { GoesOnMarked self.old.marked self.new.marked }
@@ -142,8 +139,7 @@ impl<J: Naming> Counter<'_, J> {
     /// A put or a take while others are at work.
     fn call_at_work<R: Wait>(&mut self, rt: &R, client: Client, request: &Request) -> Answer
         ensures fits { IfSome (asked_in request.now) (λ asked. IsTrue (is_call_answer result)) }
-        ensures nameless { IfSome (asked_in request.now) (λ asked.
-            IsNone asked.queue → IsTrue (is_nameless_call_answer result)) }
+        ensures nameless { IsNamelessAnswer request.now result }
         ensures told { IfSome self.new.marked (λ now.
             IsRepliedIf J.first now client (asked_in request.now) result) }
         ensures later { GoesOnMarked self.old.marked self.new.marked }
@@ -159,8 +155,7 @@ impl<J: Naming> Counter<'_, J> {
     /// (Busy).
     pub(crate) fn call<R: Wait>(&mut self, rt: &R, number: u64, request: Request) -> Answer
         ensures fits { IfSome (asked_in request) (λ asked. IsTrue (is_call_answer result)) }
-        ensures nameless { IfSome (asked_in request) (λ asked.
-            IsNone asked.queue → IsTrue (is_nameless_call_answer result)) }
+        ensures nameless { IsNamelessAnswer request result }
         ensures client { J.clients ≤ number → result ≡ AnyAnswer.Refused Refusal.NoClient }
         ensures told { IfSome self.new.marked (λ now.
             IsRepliedIf J.first now (record { 0 = number }) (asked_in request) result) }

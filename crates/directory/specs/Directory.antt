@@ -1,10 +1,14 @@
 -- A directory: eight places, each free or with a queue, no name twice.
-use Rattle.std.specs.Prelude.{◌≡◌, ℕ, ◌<◌, List, Option, Some, None, length, slice_get}
+use Rattle.std.specs.Prelude.{◌≡◌, ℕ, ◌<◌, List, Option, Some, None, length, slice_get, slice_set}
 use Rattle.arena.specs.declared.broker.TheConstants.{SLOTS}
 use Rattle.directory.specs.declared.queue.Queue.{Queue}
 
 abbrev pub Directory : Type 0
 Directory = List (Option Queue)
+
+-- the same with this queue in the slot
+abbrev pub with_queue : Directory → ℕ → Queue → Directory
+with_queue places slot queue = slice_set places slot (Some queue)
 
 -- the slot has this queue; it has none
 abbrev pub HasQueue : Directory → ℕ → Queue → Type 0

@@ -1,17 +1,20 @@
 -- What holds while a directory is recovered, and how many steps that takes.
-use Rattle.std.specs.Prelude.{◌≡◌, ℕ, ◌+◌, ◌*◌, ◌-◌, ◌<◌, ◌≤◌, length, slice_index, slice_get}
+use Rattle.std.specs.Prelude.{◌≡◌, ℕ, ◌+◌, ◌*◌, ◌-◌, ◌<◌, ◌≤◌, length, slice_index, slice_get, IfSome}
 use Rattle.persist.specs.Memory.{Words}
+use Rattle.arena.specs.Shape.{Counts}
 use Rattle.arena.specs.declared.broker.TheConstants.{SLOTS}
 use Rattle.arena.specs.declared.codes.TheConstants.{OPEN_GATE}
 use Rattle.stepper.specs.declared.resume.After.{After}
 use Rattle.stepper.specs.declared.resume.After.TheVariants.{More, Done}
-use Rattle.directory.specs.Queue.{first_name_at, second_name_at, gate_at}
+use Rattle.directory.specs.Queue.{IsOpenSlot, first_name_at, second_name_at, gate_at}
 use Rattle.directory.specs.Directory.{Directory, IsFree}
-use Rattle.directory.specs.Recovery.{slot_at}
+use Rattle.directory.specs.Recovery.{access_of, recovered, slot_at}
+use Rattle.directory.specs.Step.{after_one, value_found}
 use Rattle.directory.specs.UnderWay.{IsAtRest}
 use Rattle.directory.specs.declared.recovery.DirectoryPoint.{DirectoryPoint}
 use Rattle.directory.specs.declared.recovery.DirectoryPoint.TheVariants.{LoadGate, LoadFirstName, LoadSecondName, LoadKind}
 use Rattle.directory.specs.declared.recovery.DirectoryRecovery.{DirectoryRecovery}
+use Rattle.directory.specs.declared.recovery.Recovered.{Recovered}
 
 -- the places before a slot are the directory's, and those from it on are free yet
 pub record AreFoundBefore (places directory : Directory) (slot : ℕ) : Type 0 where
@@ -40,6 +43,22 @@ pub record IsRecovering (ws : Words) (recovery : DirectoryRecovery) (directory :
 abbrev pub Finds : Words → Directory → After DirectoryRecovery Directory → Type 0
 Finds ws directory (More next) = IsRecovering ws next directory
 Finds ws directory (Done places) = places ≡ directory
+
+-- words after its next step, and what comes then
+abbrev pub after_recovery_step : Counts → Words → DirectoryRecovery → Words
+after_recovery_step counts ws recovery = after_one counts (access_of recovery) ws
+
+abbrev pub recovery_step : Counts → Words → DirectoryRecovery → Recovered
+recovery_step counts ws recovery = recovered recovery (value_found counts (access_of recovery) ws)
+
+-- so it is of its next step
+abbrev pub RecoveryGoesOn : Counts → Words → DirectoryRecovery → Directory → Type 0
+RecoveryGoesOn counts ws recovery directory =
+    Finds (after_recovery_step counts ws recovery) directory (recovery_step counts ws recovery).after
+
+-- a slot whose gate its next step finds open has a queue
+abbrev pub FindsOpenSlot : Counts → Words → DirectoryRecovery → Type 0
+FindsOpenSlot counts ws recovery = IfSome (recovery_step counts ws recovery).opened (λ slot. IsOpenSlot ws.kept slot.0)
 
 -- how many steps a recovery has left: at least one a slot, and at most four
 abbrev pub left_of_slot : DirectoryPoint → ℕ

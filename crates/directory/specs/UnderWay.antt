@@ -1,6 +1,6 @@
 -- What the words of the directory are at rest, and while a queue is created.
-use Rattle.std.specs.Prelude.{◌≡◌, ◌≢◌, ℕ, ◌<◌, ◌≤◌, ◌⊎◌, Some, drop, length, slice_index, slice_get, slice_set}
-use Rattle.persist.specs.Memory.{Words}
+use Rattle.std.specs.Prelude.{◌≡◌, ◌≢◌, ℕ, ◌<◌, ◌≤◌, ◌⊎◌, Some, drop, length, slice_index, slice_get}
+use Rattle.persist.specs.Memory.{Words, words_after_eviction}
 use Rattle.arena.specs.Shape.{Counts}
 use Rattle.arena.specs.declared.broker.TheConstants.{BLOCKS_FROM, HEAD_WORDS, SLOTS}
 use Rattle.arena.specs.declared.codes.TheConstants.{CLOSED_GATE, OPEN_GATE}
@@ -8,7 +8,9 @@ use Rattle.stepper.specs.declared.resume.After.{After}
 use Rattle.stepper.specs.declared.resume.After.TheVariants.{More, Done}
 use Rattle.directory.specs.Name.{IsName, first_word, second_word}
 use Rattle.directory.specs.Queue.{kind_code, first_name_at, second_name_at, kind_at, gate_at, slot_in, IsSlotSound}
-use Rattle.directory.specs.Directory.{Directory, IsFree}
+use Rattle.directory.specs.Directory.{Directory, IsFree, with_queue}
+use Rattle.directory.specs.Creation.{access_of, new_creation, successor}
+use Rattle.directory.specs.Step.{after_one}
 use Rattle.directory.specs.declared.queue.Queue.{Queue}
 use Rattle.arena.specs.declared.broker.SlotId.{SlotId}
 use Rattle.directory.specs.declared.creation.Creation.{Creation}
@@ -114,21 +116,42 @@ pub record IsCreationUnderWay (ws : Words) (creation : Creation) (directory : Di
   pub named : IsName creation.queue.name
   pub own : IsAsFarAs ws creation.slot.0 creation.queue creation.at
 
+-- and has made no step yet
+abbrev pub IsCreationBegun : Words → SlotId → Queue → Directory → Type 0
+IsCreationBegun ws slot queue directory = IsCreationUnderWay ws (new_creation slot queue) directory
+
+-- words after its next step
+abbrev pub after_creation_step : Counts → Words → Creation → Words
+after_creation_step counts ws creation = after_one counts (access_of creation) ws
+
 -- what a step of a creation comes to: it goes on, or the queue is in the directory
 abbrev pub ComesTo : Words → Queue → Directory → After Creation SlotId → Type 0
 ComesTo ws queue directory (More next) = IsCreationUnderWay ws next directory
-ComesTo ws queue directory (Done slot) = IsAtRest ws (slice_set directory slot.0 (Some queue))
+ComesTo ws queue directory (Done slot) = IsAtRest ws (with_queue directory slot.0 queue)
+
+-- so it is of its next step
+abbrev pub CreationGoesOn : Counts → Words → Creation → Directory → Type 0
+CreationGoesOn counts ws creation directory =
+    ComesTo (after_creation_step counts ws creation) creation.queue directory (successor creation)
 
 -- a crash leaves the directory as it was, or with the whole queue in it
 abbrev pub IsAsItWasOrWith : Words → Creation → Directory → Type 0
 IsAsItWasOrWith ws creation directory =
-    IsAtRest ws directory ⊎ IsAtRest ws (slice_set directory creation.slot.0 (Some creation.queue))
+    IsAtRest ws directory ⊎ IsAtRest ws (with_queue directory creation.slot.0 creation.queue)
 
 -- new words have the directory's as the old ones have them, cached and kept
 pub record HaveSameDirectory (old new : Words) : Type 0 where
   pub room : HasDirectory new
   pub cached : (word : ℕ) → word < BLOCKS_FROM → slice_index new.cached word ≡ slice_index old.cached word
   pub kept : (word : ℕ) → word < BLOCKS_FROM → slice_index new.kept word ≡ slice_index old.kept word
+
+-- what all leaves so that leaves the words of the directory as they are
+abbrev pub StaysWithDirectory : (Words → Type 0) → Type 0
+StaysWithDirectory is = (old new : Words) → is old → HaveSameDirectory old new → is new
+
+-- what evictions leave so
+abbrev pub StaysInEvictions : (Words → Type 0) → Type 0
+StaysInEvictions is = (ws : Words) (word : ℕ) → is ws → is (words_after_eviction word ws)
 
 -- the head's two words, cached and kept
 pub record HasHead (ws : Words) (c : Counts) : Type 0 where

@@ -1,18 +1,20 @@
 //! What holds of the words of a directory: at rest, while a queue is created, and while it is recovered.
 
-ghost use Rattle.std.specs.Prelude.{◌≡◌, ℕ, ◌+◌, ◌<◌, ◌≤◌, IfSome, Some, None, replicate, slice_set};
+ghost use Rattle.std.specs.Prelude.{◌≡◌, ℕ, ◌+◌, ◌<◌, ◌≤◌, None, replicate};
 ghost use Rattle.persist.specs.Memory.{Words, words_after_eviction, words_after_crash, IsSameOutside};
 ghost use Rattle.arena.specs.Shape.{Counts};
 ghost use Rattle.arena.specs.declared.broker.SlotId.{SlotId};
 ghost use Rattle.directory.specs.Name.{IsName};
-ghost use Rattle.directory.specs.Queue.{directory_of, IsOpenSlot};
-ghost use Rattle.directory.specs.Directory.{Directory, IsDirectory, IsFree, HasName};
+ghost use Rattle.directory.specs.Queue.{directory_of};
+ghost use Rattle.directory.specs.Directory.{Directory, IsDirectory, IsFree, HasName, with_queue};
 ghost use Rattle.directory.specs.Sound.{AreBrokerWords, AreFreeBlocksZero, DirectoryIsSound};
-ghost use Rattle.directory.specs.Step.{after_one, value_found};
-ghost use Rattle.directory.specs.Creation.{new_creation, access_of as creation_access, successor, left_at, left_after};
-ghost use Rattle.directory.specs.UnderWay.{HasDirectory, HasHead, IsAtRest, IsBlank, IsCreationUnderWay, ComesTo, IsAsItWasOrWith, HaveSameDirectory, HaveSameBlocks};
-ghost use Rattle.directory.specs.Recovery.{boot_recovery, access_of, recovered};
-ghost use Rattle.directory.specs.Recovering.{IsRecovering, Finds, most_left, least_left, IsOneLess};
+ghost use Rattle.directory.specs.Creation.{new_creation, successor, left_at, left_after};
+ghost use Rattle.directory.specs.UnderWay.{HasDirectory, HasHead, IsAtRest, IsBlank, IsAsItWasOrWith, HaveSameDirectory, HaveSameBlocks};
+ghost use Rattle.directory.specs.UnderWay.{IsCreationBegun, IsCreationUnderWay, CreationGoesOn, after_creation_step};
+ghost use Rattle.directory.specs.UnderWay.{StaysInEvictions, StaysWithDirectory};
+ghost use Rattle.directory.specs.Recovery.{boot_recovery, recovered};
+ghost use Rattle.directory.specs.Recovering.{IsRecovering, RecoveryGoesOn, FindsOpenSlot, after_recovery_step};
+ghost use Rattle.directory.specs.Recovering.{most_left, least_left, IsOneLess};
 ghost use Rattle.directory.specs.declared.creation.Creation.{Creation};
 ghost use Rattle.directory.specs.declared.queue.Queue.{Queue};
 ghost use Rattle.directory.specs.declared.recovery.DirectoryRecovery.{DirectoryRecovery};
@@ -28,12 +30,10 @@ pub fn directories_stay()
         → directory_of ws.kept ≡ directory }
     ensures cached { (ws : Words) (directory : Directory) → IsAtRest ws directory
         → directory_of ws.cached ≡ directory }
-    ensures evicted { (ws : Words) (directory : Directory) → IsAtRest ws directory
-        → (word : ℕ) → IsAtRest (words_after_eviction word ws) directory }
+    ensures evicted { (directory : Directory) → StaysInEvictions (λ ws. IsAtRest ws directory) }
     ensures crashed { (ws : Words) (directory : Directory) → IsAtRest ws directory
         → IsAtRest (words_after_crash ws) directory }
-    ensures elsewhere { (old new : Words) (directory : Directory) → IsAtRest old directory
-        → HaveSameDirectory old new → IsAtRest new directory }
+    ensures elsewhere { (directory : Directory) → StaysWithDirectory (λ ws. IsAtRest ws directory) }
 {}
 
 /// A directory is at rest after a crash that leaves sound words, and where all its words are 0: it has no queue then.
@@ -50,8 +50,8 @@ pub fn directories_are_sound()
     ensures rest { (counts : Counts) (ws : Words) (directory : Directory) → IsAtRest ws directory
         → IsDirectory directory → AreFreeBlocksZero counts ws.kept directory → DirectoryIsSound counts ws.kept }
     ensures more { (directory : Directory) (slot : ℕ) (queue : Queue) → IsDirectory directory
-        → IsFree directory slot → (HasName directory queue.name → ⊥)
-        → IsDirectory (slice_set directory slot (Some queue)) }
+        → IsFree directory slot → ¬ HasName directory queue.name
+        → IsDirectory (with_queue directory slot queue) }
 {}
 
 /// What changes nothing but words past the directory leaves the directory as it is.
@@ -64,24 +64,23 @@ pub fn directories_stay_before_blocks()
 /// creation and of a recovery.
 #[tactic(auto, using(crate::proofs::Sounds::head_moves, crate::proofs::Sounds::head_crashed))]
 pub fn heads_stay()
-    ensures elsewhere { (old new : Words) (counts : Counts) → HaveSameDirectory old new
-        → HasHead old counts → HasHead new counts }
+    ensures elsewhere { (counts : Counts) → StaysWithDirectory (λ ws. HasHead ws counts) }
     ensures evicted { (ws : Words) (word : ℕ) (counts : Counts) → HasDirectory ws
         → HasHead ws counts → HasHead (words_after_eviction word ws) counts }
     ensures crashed { (ws : Words) (counts : Counts) → HasHead ws counts → HasHead (words_after_crash ws) counts }
     ensures created { (layout counts : Counts) (ws : Words) (creation : Creation) → HasDirectory ws
-        → HasHead ws counts → HasHead (after_one layout (creation_access creation) ws) counts }
+        → HasHead ws counts → HasHead (after_creation_step layout ws creation) counts }
     ensures recovered { (layout counts : Counts) (ws : Words) (recovery : DirectoryRecovery)
-        → HasHead ws counts → HasHead (after_one layout (access_of recovery) ws) counts }
+        → HasHead ws counts → HasHead (after_recovery_step layout ws recovery) counts }
 {}
 
 /// A step of a creation, or of a recovery, leaves the words of the blocks as they are.
 #[tactic(auto, using(crate::proofs::Sounds::creation_blocks))]
 pub fn blocks_stay()
     ensures created { (counts : Counts) (ws : Words) (creation : Creation) → creation.slot.0 < SLOTS
-        → HaveSameBlocks ws (after_one counts (creation_access creation) ws) }
+        → HaveSameBlocks ws (after_creation_step counts ws creation) }
     ensures recovered { (counts : Counts) (ws : Words) (recovery : DirectoryRecovery)
-        → HaveSameBlocks ws (after_one counts (access_of recovery) ws) }
+        → HaveSameBlocks ws (after_recovery_step counts ws recovery) }
 {}
 
 /// A creation may begin in a free slot of a directory at rest.
@@ -89,14 +88,14 @@ pub fn blocks_stay()
 pub fn creations_begin()
     ensures { (ws : Words) (slot : SlotId) (queue : Queue) (directory : Directory)
         → IsAtRest ws directory → IsFree directory slot.0 → IsName queue.name
-        → IsCreationUnderWay ws (new_creation slot queue) directory }
+        → IsCreationBegun ws slot queue directory }
 {}
 
 /// A step of a creation goes on with it; the last one leaves a directory at rest, with the queue in the slot.
 pub fn creations_go_on()
     ensures { (counts : Counts) (ws : Words) (creation : Creation) (directory : Directory)
         → IsCreationUnderWay ws creation directory
-        → ComesTo (after_one counts (creation_access creation) ws) creation.queue directory (successor creation) }
+        → CreationGoesOn counts ws creation directory }
 {}
 
 /// A creation takes [`CREATION_STEPS`] steps.
@@ -109,12 +108,10 @@ pub fn creations_end()
 /// Evictions leave a creation as it is, and so does all that leaves the words of the directory as they are.
 #[tactic(auto, using(crate::proofs::Creations::creation_moves))]
 pub fn creations_stay()
-    ensures evicted { (ws : Words) (creation : Creation) (directory : Directory)
-        → IsCreationUnderWay ws creation directory
-        → (word : ℕ) → IsCreationUnderWay (words_after_eviction word ws) creation directory }
-    ensures elsewhere { (old new : Words) (creation : Creation) (directory : Directory)
-        → IsCreationUnderWay old creation directory → HaveSameDirectory old new
-        → IsCreationUnderWay new creation directory }
+    ensures evicted { (creation : Creation) (directory : Directory)
+        → StaysInEvictions (λ ws. IsCreationUnderWay ws creation directory) }
+    ensures elsewhere { (creation : Creation) (directory : Directory)
+        → StaysWithDirectory (λ ws. IsCreationUnderWay ws creation directory) }
 {}
 
 /// A crash at any moment of a creation leaves the directory as it was before it, or with the whole queue in it.
@@ -136,11 +133,9 @@ pub fn recoveries_begin()
 /// queue.
 pub fn recoveries_go_on()
     ensures next { (counts : Counts) (ws : Words) (recovery : DirectoryRecovery) (directory : Directory)
-        → IsRecovering ws recovery directory → let access = access_of recovery in
-        Finds (after_one counts access ws) directory (recovered recovery (value_found counts access ws)).after }
+        → IsRecovering ws recovery directory → RecoveryGoesOn counts ws recovery directory }
     ensures opened { (counts : Counts) (ws : Words) (recovery : DirectoryRecovery) (directory : Directory)
-        → IsRecovering ws recovery directory → let access = access_of recovery in
-        IfSome (recovered recovery (value_found counts access ws)).opened (λ slot. IsOpenSlot ws.kept slot.0) }
+        → IsRecovering ws recovery directory → FindsOpenSlot counts ws recovery }
 {}
 
 /// A recovery takes [`MAX_DIRECTORY_STEPS`] steps at most, and [`MIN_DIRECTORY_STEPS`] at least.
@@ -153,10 +148,8 @@ pub fn recoveries_end()
 /// Evictions leave a recovery as it is, and so does all that leaves the words of the directory as they are.
 #[tactic(auto, using(crate::proofs::Recoveries::recovery_moves))]
 pub fn recoveries_stay()
-    ensures evicted { (ws : Words) (recovery : DirectoryRecovery) (directory : Directory)
-        → IsRecovering ws recovery directory
-        → (word : ℕ) → IsRecovering (words_after_eviction word ws) recovery directory }
-    ensures elsewhere { (old new : Words) (recovery : DirectoryRecovery) (directory : Directory)
-        → IsRecovering old recovery directory → HaveSameDirectory old new
-        → IsRecovering new recovery directory }
+    ensures evicted { (recovery : DirectoryRecovery) (directory : Directory)
+        → StaysInEvictions (λ ws. IsRecovering ws recovery directory) }
+    ensures elsewhere { (recovery : DirectoryRecovery) (directory : Directory)
+        → StaysWithDirectory (λ ws. IsRecovering ws recovery directory) }
 {}

@@ -1,6 +1,6 @@
 //! Whether kept words are those of a broker.
 
-ghost use Rattle.std.specs.Prelude.{◌≡◌, ◌↔◌, ℕ, ◌+◌, ◌<◌, ◌≤◌, length, slice_index, IsTrue, IsOk, IfOk, IfErr, MatchOption};
+ghost use Rattle.std.specs.Prelude.{◌≡◌, ◌↔◌, ℕ, ◌+◌, ◌<◌, ◌≤◌, length, slice_index, IsTrue, IsOk, IfOk, IfErr, IfNone, IfSome};
 ghost use Rattle.arena.specs.Broker.{broker_size_in, broker_word, IsBrokerPlace};
 ghost use Rattle.directory.specs.Queue.{queue_in, slot_in, directory_of};
 ghost use Rattle.directory.specs.Directory.{IsDirectory};
@@ -23,8 +23,9 @@ pub struct KeptBroker {
 
 /// The layout that the head tells of, if it is sound.
 fn kept_layout<W: KeptWords>(form: Form, words: &W) -> Option<BrokerLayout>
-    ensures { MatchOption result (HeadIsSoundIn form (W.kept_words words.now) → ⊥)
-        (λ layout. HeadIsSoundIn form (W.kept_words words.now) × (layout ≡ counts_in (W.kept_words words.now))) }
+    ensures none { IfNone result (¬ HeadIsSoundIn form (W.kept_words words.now)) }
+    ensures sound { IfSome result (λ layout. HeadIsSoundIn form (W.kept_words words.now)) }
+    ensures layout { IfSome result (λ layout. layout ≡ counts_in (W.kept_words words.now)) }
 {
     let count = words.size();
     if count < HEAD_WORDS {
@@ -126,8 +127,9 @@ fn are_slots_sound<W: KeptWords>(form: Form, layout: &BrokerLayout, words: &W) -
 /// The directory, if no two slots have queues of one name.
 fn kept_directory<W: KeptWords>(layout: &BrokerLayout, words: &W) -> Option<Directory>
     requires { BLOCKS_FROM ≤ length (W.kept_words words.now) }
-    ensures { MatchOption result (IsDirectory (directory_of (W.kept_words words.now)) → ⊥)
-        (λ directory. (directory ≡ directory_of (W.kept_words words.now)) × IsDirectory directory) }
+    ensures none { IfNone result (¬ IsDirectory (directory_of (W.kept_words words.now))) }
+    ensures read { IfSome result (λ directory. directory ≡ directory_of (W.kept_words words.now)) }
+    ensures sound { IfSome result (λ directory. IsDirectory directory) }
 {
     let mut directory = Directory::new();
     for slot in 0..SLOTS {

@@ -5,4 +5,5 @@ pub mod Handled
 pub mod Serving
 pub mod Input
 pub mod Output
+pub mod Desks
 pub mod Failing

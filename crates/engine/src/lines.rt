@@ -1,12 +1,10 @@
 //! Lines that came together, and their replies, which go together.
 
-ghost use Rattle.std.specs.Prelude.{◌≡◌, ◌<◌, ◌+◌, [], true, false, IfOk, OnOk, OnErr};
+ghost use Rattle.std.specs.Prelude.{◌≡◌, ◌<◌, ◌+◌, [], IfOk, OnOk, OnErr};
 ghost use Rattle.devices.specs.Devices.{IsFlushed};
+ghost use Rattle.engine.specs.Desks.{HoldsAsFar, ServesAll, ServesAsFar, ServesSome, ServesUntilFault};
 ghost use Rattle.engine.specs.Lines.{last_line_of};
-ghost use Rattle.engine.specs.Output.{write_failures_of, settle_failures_of, AreHeld};
-ghost use Rattle.engine.specs.Handled.{RepliesAsFar, RepliesUntilFault};
-ghost use Rattle.engine.specs.Serving.{Serves};
-ghost use Rattle.engine.specs.Settled.{AreTold, SomeAreTold};
+ghost use Rattle.engine.specs.Output.{write_failures_of, settle_failures_of};
 
 use crate::desk::Desk;
 use crate::filling::newline_in;
@@ -38,14 +36,10 @@ fn put_replies<T: Wait, P: Reading, W: Writer, D: Desk>(
     requires writer { W.failures writer.old < MAX_FAILURES }
     requires desk { D.failures desk.old < MAX_FAILURES }
     requires empty { output.old.items ≡ [] }
-    ensures put { IfOk result (λ progress.
-        RepliesAsFar P.meaning progress bytes.now (D.served desk.old) (D.served desk.new)
-        (AreHeld (D.served desk.old) (D.settled desk.old) (D.settled desk.new)
-        (W.written writer.old) (W.written writer.new) output.new.items)) }
+    ensures put { IfOk result (λ progress. HoldsAsFar D.Desk W.Writer desk.old desk.new writer.old writer.new
+        P.meaning progress bytes.now output.new.items) }
     ensures fault { OnErr result
-        (RepliesUntilFault P.meaning bytes.now (D.served desk.old) (D.served desk.new)
-        (SomeAreTold (D.served desk.old) (D.settled desk.old) (D.settled desk.new)
-        (W.written writer.old) (W.written writer.new))) }
+        (ServesUntilFault D.Desk W.Writer desk.old desk.new writer.old writer.new P.meaning bytes.now) }
     ensures write_failures { W.failures writer.new ≡ W.failures writer.old + write_failures_of result }
     ensures settle_failures { D.failures desk.new ≡ D.failures desk.old + settle_failures_of result }
 {
@@ -76,15 +70,11 @@ pub fn reply_lines<T: Wait, P: Reading, W: Writer, D: Desk>(
     requires desk { D.failures desk.old < MAX_FAILURES }
     requires empty { output.old.items ≡ [] }
     ensures told { IfOk result (λ progress.
-        RepliesAsFar P.meaning progress bytes.now (D.served desk.old) (D.served desk.new)
-        (AreTold (D.served desk.old) (D.settled desk.old) (D.settled desk.new)
-        (W.written writer.old) (W.written writer.new))) }
+        ServesAsFar D.Desk W.Writer desk.old desk.new writer.old writer.new P.meaning progress bytes.now) }
     ensures flushed { OnOk result (IsFlushed (W.written writer.new) (W.flushed writer.new)) }
     ensures empty { OnOk result (output.new.items ≡ []) }
     ensures fault { OnErr result
-        (RepliesUntilFault P.meaning bytes.now (D.served desk.old) (D.served desk.new)
-        (SomeAreTold (D.served desk.old) (D.settled desk.old) (D.settled desk.new)
-        (W.written writer.old) (W.written writer.new))) }
+        (ServesUntilFault D.Desk W.Writer desk.old desk.new writer.old writer.new P.meaning bytes.now) }
     ensures write_failures { W.failures writer.new ≡ W.failures writer.old + write_failures_of result }
     ensures settle_failures { D.failures desk.new ≡ D.failures desk.old + settle_failures_of result }
 {
@@ -107,14 +97,10 @@ pub fn reply_last_line<T: Wait, P: Reading, W: Writer, D: Desk>(
     requires desk { D.failures desk.old < MAX_FAILURES }
     requires empty { output.old.items ≡ [] }
     ensures told { OnOk result
-        (Serves P.meaning true (last_line_of bytes.now) (D.served desk.old) (D.served desk.new)
-        (AreTold (D.served desk.old) (D.settled desk.old) (D.settled desk.new)
-        (W.written writer.old) (W.written writer.new))) }
+        (ServesAll D.Desk W.Writer desk.old desk.new writer.old writer.new P.meaning (last_line_of bytes.now)) }
     ensures flushed { OnOk result (IsFlushed (W.written writer.new) (W.flushed writer.new)) }
     ensures fault { OnErr result
-        (Serves P.meaning false (last_line_of bytes.now) (D.served desk.old) (D.served desk.new)
-        (SomeAreTold (D.served desk.old) (D.settled desk.old) (D.settled desk.new)
-        (W.written writer.old) (W.written writer.new))) }
+        (ServesSome D.Desk W.Writer desk.old desk.new writer.old writer.new P.meaning (last_line_of bytes.now)) }
     ensures write_failures { W.failures writer.new ≡ W.failures writer.old + write_failures_of result }
     ensures settle_failures { D.failures desk.new ≡ D.failures desk.old + settle_failures_of result }
 {

@@ -3,7 +3,8 @@
 ghost use Rattle.std.specs.Prelude.{◌≡◌, ◌≢◌, ◌<◌, ◌+◌, [], OnOk, OnErr};
 ghost use Rattle.std.specs.Io.KnownBytes.{Appends};
 ghost use Rattle.devices.specs.Devices.{IsFlushed};
-ghost use Rattle.engine.specs.Output.{write_failures_of, settle_failures_of, Moves, SendsSettled, SettlesFor};
+ghost use Rattle.engine.specs.Desks.{Sends};
+ghost use Rattle.engine.specs.Output.{write_failures_of, settle_failures_of, Moves, SettlesFor};
 ghost use Rattle.engine.specs.Replies.{reply_line};
 
 use crate::desk::Desk;
@@ -40,8 +41,8 @@ pub fn send_settled<T: Wait, W: Writer, D: Desk>(
     ensures settled { OnOk result
         (SettlesFor output.now.items (D.served desk.old) (D.settled desk.old) (D.settled desk.new)) }
     ensures flushed { OnOk result (IsFlushed (W.written writer.new) (W.flushed writer.new)) }
-    ensures unsent { OnErr result (SendsSettled (D.served desk.old) (D.settled desk.old) (D.settled desk.new)
-        (W.written writer.old) (W.written writer.new) output.now.items) }
+    ensures unsent { OnErr result
+        (Sends D.Desk W.Writer desk.old desk.new writer.old writer.new output.now.items) }
     ensures served { D.served desk.new ≡ D.served desk.old }
     ensures write_failures { W.failures writer.new ≡ W.failures writer.old + write_failures_of result }
     ensures settle_failures { D.failures desk.new ≡ D.failures desk.old + settle_failures_of result }
@@ -74,8 +75,7 @@ pub fn put<T: Wait, W: Writer, D: Desk>(
     ensures put { OnOk result
         (Moves (W.written writer.old) (W.written writer.new) output.old.items output.new.items (reply_line reply.now)) }
     ensures some { OnOk result (output.new.items ≢ []) }
-    ensures settled { SendsSettled (D.served desk.old) (D.settled desk.old) (D.settled desk.new)
-        (W.written writer.old) (W.written writer.new) output.old.items }
+    ensures settled { Sends D.Desk W.Writer desk.old desk.new writer.old writer.new output.old.items }
     ensures served { D.served desk.new ≡ D.served desk.old }
     ensures write_failures { W.failures writer.new ≡ W.failures writer.old + write_failures_of result }
     ensures settle_failures { D.failures desk.new ≡ D.failures desk.old + settle_failures_of result }

@@ -1,10 +1,8 @@
 //! Serving a reader and a writer.
 
-ghost use Rattle.std.specs.Prelude.{◌≡◌, ◌<◌, ◌↔◌, true, false, OnOk, IsErrOf};
+ghost use Rattle.std.specs.Prelude.{◌≡◌, ◌<◌, ◌↔◌, OnOk, IsErrOf};
 ghost use Rattle.devices.specs.Devices.{IsFlushed};
-ghost use Rattle.engine.specs.Lines.{lines_of};
-ghost use Rattle.engine.specs.Serving.{HasInput, Serves, ServesWhatWasRead};
-ghost use Rattle.engine.specs.Settled.{AreTold, SomeAreTold};
+ghost use Rattle.engine.specs.Desks.{ServesPart, ServesRead, ServesWhole};
 
 use crate::desk::Desk;
 use crate::failure::Failure;
@@ -30,25 +28,18 @@ pub fn serve<T: Wait, P: Reading, R: Reader, W: Writer, D: Desk>(
     requires writer { W.failures writer.old < MAX_FAILURES }
     requires desk { D.failures desk.old < MAX_FAILURES }
     // The text of one reply for each line of the input was written, and nothing else. All that was served is settled.
-    ensures served { OnOk result (HasInput (R.left reader.old) (λ input.
-        Serves P.meaning true (lines_of input) (D.served desk.old) (D.served desk.new)
-        (AreTold (D.served desk.old) (D.settled desk.old) (D.settled desk.new)
-        (W.written writer.old) (W.written writer.new)))) }
+    ensures served { OnOk result
+        (ServesWhole D.Desk W.Writer desk.old desk.new writer.old writer.new P.meaning (R.left reader.old)) }
     ensures flushed { OnOk result (IsFlushed (W.written writer.new) (W.flushed writer.new)) }
     // The same for the whole lines of what was read.
-    ensures read_failed { IsErrOf result Failure.ReadFailed → HasInput (R.left reader.old) (λ input.
-        ServesWhatWasRead P.meaning input (R.left reader.new) (D.served desk.old) (D.served desk.new)
-        (AreTold (D.served desk.old) (D.settled desk.old) (D.settled desk.new)
-        (W.written writer.old) (W.written writer.new))) }
+    ensures read_failed { IsErrOf result Failure.ReadFailed
+        → ServesRead D.Desk W.Writer desk.old desk.new writer.old writer.new P.meaning
+        (R.left reader.old) (R.left reader.new) }
     // A beginning of it was written: of the replies to the first requests, which are settled.
-    ensures write_failed { IsErrOf result Failure.WriteFailed → HasInput (R.left reader.old) (λ input.
-        Serves P.meaning false (lines_of input) (D.served desk.old) (D.served desk.new)
-        (SomeAreTold (D.served desk.old) (D.settled desk.old) (D.settled desk.new)
-        (W.written writer.old) (W.written writer.new))) }
-    ensures not_kept { IsErrOf result Failure.NotKept → HasInput (R.left reader.old) (λ input.
-        Serves P.meaning false (lines_of input) (D.served desk.old) (D.served desk.new)
-        (SomeAreTold (D.served desk.old) (D.settled desk.old) (D.settled desk.new)
-        (W.written writer.old) (W.written writer.new))) }
+    ensures write_failed { IsErrOf result Failure.WriteFailed
+        → ServesPart D.Desk W.Writer desk.old desk.new writer.old writer.new P.meaning (R.left reader.old) }
+    ensures not_kept { IsErrOf result Failure.NotKept
+        → ServesPart D.Desk W.Writer desk.old desk.new writer.old writer.new P.meaning (R.left reader.old) }
     ensures read_fault { IsErrOf result Failure.ReadFailed ↔ (R.failures reader.old < R.failures reader.new) }
     ensures write_fault { IsErrOf result Failure.WriteFailed ↔ (W.failures writer.old < W.failures writer.new) }
     ensures settle_fault { IsErrOf result Failure.NotKept ↔ (D.failures desk.old < D.failures desk.new) }

@@ -1,5 +1,5 @@
 -- What a crash at each point of a script comes to.
-use Rattle.std.specs.Prelude.{ℕ, zero, suc, ◌+◌, ◌-◌, ◌%◌, ◌==◌, Bool, true, false, List, [], ◌∷◌, Option, Some, None, length, map, take, drop, replicate, if◌then◌else◌}
+use Rattle.std.specs.Prelude.{◌≡◌, ℕ, zero, suc, ◌+◌, ◌-◌, ◌%◌, ◌==◌, Bool, true, false, List, [], ◌∷◌, ◌++◌, Option, Some, None, length, map, take, drop, replicate, if◌then◌else◌}
 use Rattle.std.specs.List.{range_with_len}
 use Rattle.rand_pcg.specs.Lcg.{Lcg, started, increment_of}
 use Rattle.rand_pcg.specs.Pcg.{pcg32, multiplier_64}
@@ -8,10 +8,13 @@ use Rattle.words.specs.declared.limits.TheConstants.{MAX_CLIENTS}
 use Rattle.words.specs.declared.told.Told.{Told}
 use Rattle.arena.specs.Layout.{size_of}
 use Rattle.arena.specs.Shape.{Shape}
+use Rattle.events.specs.declared.event.Event.{Event}
+use Rattle.events.specs.declared.event.Event.TheVariants.{Crash as crash_event, Ready as ready_event}
 use Rattle.protocol.specs.declared.acts.Act.{Act}
 use Rattle.protocol.specs.declared.acts.Act.TheVariants.{Evict, Recover}
 use Rattle.interleave.specs.State.{State, new_world, after_acts, taken_of, after_crash, after_stop, kept_content, most_to_ready}
 use Rattle.grammar.specs.Grammar.{shape_by}
+use Rattle.grammar.specs.Scripted.{Scripted}
 use Rattle.playing.specs.Acts.{acts_of}
 use Rattle.playing.specs.Transcript.{told_at}
 use Rattle.grammar.specs.declared.commands.Command.{Command}
@@ -19,6 +22,7 @@ use Rattle.grammar.specs.declared.commands.QueueLine.{QueueLine}
 use Rattle.explore.specs.declared.point.Point.{Point}
 use Rattle.explore.specs.declared.evictions.Evictions.{Evictions}
 use Rattle.explore.specs.declared.part.Part.{Part}
+use Rattle.explore.specs.declared.part.Wanted.{Wanted}
 use Rattle.explore.specs.declared.evictions.Evictions.TheVariants.{None as no_word, All, Drawn}
 
 -- the words, so many from this one up, for which the next draws have lowest bit 1
@@ -35,11 +39,14 @@ evicted_words All words point = range_with_len 0 words
 evicted_words (Drawn state) words point =
     drawn_words words 0 (started 64 multiplier_64 state (increment_of 64 point))
 
+-- those evictions, as acts
+abbrev pub evictions_at : Shape → Evictions → ℕ → List (Act ℕ)
+evictions_at s evictions point = map Evict (evicted_words evictions (size_of s) point)
+
 -- everything stops after these acts and those evictions
 unfoldable pub crashed_world : Shape → List (Act ℕ) → Evictions → ℕ → State
 crashed_world s acts evictions point =
-    after_crash false
-    (after_acts (after_acts (new_world s) acts) (map Evict (evicted_words evictions (size_of s) point)))
+    after_crash false (after_acts (after_acts (new_world s) acts) (evictions_at s evictions point))
 
 -- all of recovery: its steps once the queue is ready are refused
 abbrev pub recovery_of : Shape → List (Act ℕ)
@@ -70,6 +77,10 @@ found_in w steps = record {
 abbrev pub recovered : State → State
 recovered w = after_acts (after_stop w) (recovery_of w.shape)
 
+-- the events of a world that stops, and whose clients are told this once it is ready
+abbrev pub events_once_ready : State → List Told → List Event
+events_once_ready w told = w.log.events ++ crash_event ∷ ready_event told ∷ []
+
 -- what recovery makes of a world
 abbrev pub found_by_recovery : State → List (Act ℕ) → Found
 found_by_recovery w recovery = found_in (after_acts w recovery) (taken_of w recovery)
@@ -85,6 +96,11 @@ found_after s acts evictions point = found_by_recovery (crashed_world s acts evi
 -- that of a crash after the first of these acts, so many of them
 abbrev pub found_at : Shape → List (Act ℕ) → Evictions → ℕ → Found
 found_at s acts evictions point = found_after s (take point acts) evictions point
+
+-- a world that had made the first of these acts, so many of them, has made the next one too, if there is one
+abbrev pub GoesOnByAct : List (Act ℕ) → ℕ → State → State → Type 0
+GoesOnByAct acts point old new =
+    (w : State) → old ≡ after_acts w (take point acts) → new ≡ after_acts w (take (point + 1) acts)
 
 -- those of crashes after the first acts, from so many of them on, up to another number
 abbrev pub found_between : Shape → List (Act ℕ) → Evictions → ℕ → ℕ → List Found
@@ -110,3 +126,7 @@ first_of (Some count) xs = take count xs
 
 abbrev pub part_of : {X : Type 0} → Part → List X → List X
 part_of part xs = first_of part.count (drop part.from xs)
+
+-- those of a script that are wanted
+abbrev pub wanted_of : Wanted → Scripted → List Found
+wanted_of wanted script = part_of wanted.part (points_of script.queue script.commands wanted.evictions)

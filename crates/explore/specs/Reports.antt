@@ -1,5 +1,5 @@
 -- What the reports on a script say.
-use Rattle.std.specs.Prelude.{ℕ, ◌+◌, Bool, true, false, List, [], ◌∷◌, ◌++◌, Option, Some, None, length, take, fold, max, codes, decimal}
+use Rattle.std.specs.Prelude.{◌≡◌, ℕ, ◌+◌, Bool, true, false, List, [], ◌∷◌, ◌++◌, Option, Some, None, length, take, fold, max, codes, decimal}
 use Rattle.std.specs.List.{flat_map}
 use Rattle.words.specs.PlainQueue.{Value}
 use Rattle.words.specs.Text.{told_text}
@@ -60,6 +60,12 @@ lines_of_part clients part points = numbered_text clients part.from (part_of par
 
 abbrev pub lines_from : ℕ → ℕ → Option ℕ → List Found → List ℕ
 lines_from clients from count points = lines_of_part clients (record { from = from; count = count }) points
+
+-- the lines of the points from one on, so many of them, and of the next ones, put together are those of both
+abbrev pub AreLinesOfBoth : ℕ → List Found → ℕ → ℕ → Option ℕ → Option ℕ → Type 0
+AreLinesOfBoth clients points from first next both =
+    lines_from clients from (Some first) points ++ lines_from clients (from + first) next points
+    ≡ lines_from clients from both points
 
 -- the report on a part of a script's points
 abbrev pub points_text : Wanted → Option QueueLine → List Command → List ℕ

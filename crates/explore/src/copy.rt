@@ -1,13 +1,12 @@
 //! What a world keeps, copied to another memory, and recovery there.
 
-ghost use Rattle.std.specs.Prelude.{◌≡◌, ◌<◌, ◌++◌, ◌∷◌, [], length, slice_set};
+ghost use Rattle.std.specs.Prelude.{◌≡◌, ◌<◌, length, slice_set};
 ghost use Rattle.words.specs.declared.limits.TheConstants.{MAX_CLIENTS};
 ghost use Rattle.persist.specs.Memory.{IsUnasked};
-ghost use Rattle.events.specs.declared.event.Event.TheVariants.{Crash as crash_event, Ready as ready_event};
 ghost use Rattle.interleave.specs.Holds.{Holds};
 ghost use Rattle.interleave.specs.Queue.{told_in};
 ghost use Rattle.interleave.specs.State.{after_acts, after_stop, taken_of};
-ghost use Rattle.explore.specs.Points.{recovered, recovery_of};
+ghost use Rattle.explore.specs.Points.{events_once_ready, recovered, recovery_of};
 
 use events::copied;
 use interleave::World;
@@ -59,8 +58,7 @@ pub(crate) fn recover(copy: &mut Memory, world: &World) -> Recovered
     ensures told { result.told ≡ told_in (recovered world.now.now).queue }
     ensures sixteen { length result.told ≡ MAX_CLIENTS }
     ensures kept { copy.new.words.kept ≡ (recovered world.now.now).words.kept }
-    ensures events { (recovered world.now.now).log.events
-        ≡ world.now.now.log.events ++ crash_event ∷ ready_event result.told ∷ [] }
+    ensures events { (recovered world.now.now).log.events ≡ events_once_ready world.now.now result.told }
     ensures size { length copy.new.words.kept ≡ length copy.old.words.kept }
 {
     let layout = world.layout();

@@ -2,12 +2,11 @@
 
 ghost use Rattle.std.specs.Prelude.{◌≡◌, length, map};
 ghost use Rattle.interleave.specs.State.{after_acts};
-ghost use Rattle.arena.specs.Layout.{size_of};
 ghost use Rattle.protocol.specs.declared.acts.Act.TheVariants.{Evict};
 ghost use Rattle.std.specs.List.{range_with_len};
 ghost use Rattle.rand_pcg.specs.Lcg.{started, increment_of};
 ghost use Rattle.rand_pcg.specs.Pcg.{multiplier_64};
-ghost use Rattle.explore.specs.Points.{drawn_words, evicted_words};
+ghost use Rattle.explore.specs.Points.{drawn_words, evicted_words, evictions_at};
 
 use interleave::World;
 use rand_core::utils::NextWord;
@@ -56,7 +55,7 @@ fn evict_drawn(world: &mut World, words: usize, mut draws: Pcg32)
 /// Evicts what is to be evicted before the crash at a point.
 pub(crate) fn evict_words(world: &mut World, evictions: Evictions, point: u64)
     ensures { world.new.now
-        ≡ after_acts world.old.now (map Evict (evicted_words evictions (size_of world.old.now.shape) point)) }
+        ≡ after_acts world.old.now (evictions_at world.old.now.shape evictions point) }
 {
     let words = world.layout().size();
     match evictions {

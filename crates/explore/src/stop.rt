@@ -1,10 +1,9 @@
 //! What is found where a world stops, while the world itself goes on.
 
-ghost use Rattle.std.specs.Prelude.{◌≡◌, ◌≤◌, ◌++◌, ◌∷◌, [], OnOk, IfOk, IfErr, IsTrue, length};
-ghost use Rattle.events.specs.declared.event.Event.TheVariants.{Crash as crash_event, Ready as ready_event};
+ghost use Rattle.std.specs.Prelude.{◌≡◌, ◌≤◌, OnOk, IfOk, IfErr, IsTrue, length};
 ghost use Rattle.interleave.specs.Holds.{Holds};
 ghost use Rattle.interleave.specs.State.{kept_content, order_in};
-ghost use Rattle.explore.specs.Points.{found_of, found_stopped, recovered};
+ghost use Rattle.explore.specs.Points.{events_once_ready, found_of, found_stopped, recovered};
 
 use crate::copy::{Recovered, copy_kept, recover};
 use crate::point::Point;
@@ -41,8 +40,7 @@ fn tell_stop(
 ) -> Result<(), Refusal>
     ensures base { OnOk result (history.new.base.items ≡ world.now.now.base) }
     ensures told { OnOk result (history.new.told ≡ world.now.now.told) }
-    ensures events { OnOk result (history.new.events.items
-        ≡ world.now.now.log.events ++ crash_event ∷ ready_event told.now ∷ []) }
+    ensures events { OnOk result (history.new.events.items ≡ events_once_ready world.now.now told.now) }
     ensures errors { IfErr result (λ e. e ≡ Refusal.NoMemory) }
 {
     let before = world.history();
@@ -112,8 +110,7 @@ fn is_right(
     content: &[Value],
 ) -> Result<bool, Refusal>
     requires holds { Holds world.now.now }
-    requires told { (recovered world.now.now).log.events
-        ≡ world.now.now.log.events ++ crash_event ∷ ready_event told.now ∷ [] }
+    requires told { (recovered world.now.now).log.events ≡ events_once_ready world.now.now told.now }
     requires order { order.now.entries.items ≡ order_in world.now.now }
     requires content { content.now ≡ kept_content (recovered world.now.now) }
     ensures right { IfOk result (λ right. IsTrue right) }

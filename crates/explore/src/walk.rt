@@ -1,9 +1,8 @@
 //! Points that one worker makes, one after another.
 
-ghost use Rattle.std.specs.Prelude.{◌≡◌, ◌<◌, ◌≤◌, ◌+◌, ◌-◌, ◌++◌, ◌∷◌, [], OnOk, IfOk, IfErr, length, map, take};
+ghost use Rattle.std.specs.Prelude.{◌≡◌, ◌<◌, ◌≤◌, ◌+◌, ◌-◌, ◌++◌, ◌∷◌, [], OnOk, IfOk, IfErr, length, map};
 ghost use Rattle.interleave.specs.Holds.{Holds};
-ghost use Rattle.interleave.specs.State.{State, after_acts};
-ghost use Rattle.explore.specs.Points.{found_between, found_of, found_stopped};
+ghost use Rattle.explore.specs.Points.{found_between, found_of, found_stopped, GoesOnByAct};
 
 use crate::evictions::Evictions;
 use crate::point::{Point, crash};
@@ -47,8 +46,7 @@ fn add_stop(
 
 /// Makes the act at this place, if there is one.
 fn go_on(world: &mut World, acts: &[Act], point: usize) -> Result<(), Refusal>
-    ensures world { OnOk result ((w : State) → world.old.now ≡ after_acts w (take point acts.now)
-        → world.new.now ≡ after_acts w (take (point + 1) acts.now)) }
+    ensures world { OnOk result (GoesOnByAct acts.now point world.old.now world.new.now) }
     ensures errors { IfErr result (λ e. e ≡ Refusal.NoMemory) }
 {
     if point < acts.len() {

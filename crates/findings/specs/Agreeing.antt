@@ -1,12 +1,15 @@
 -- An order by the places of its calls.
-use Rattle.std.specs.Prelude.{ℕ, ◌≡◌, ◌<◌, ⊤, List, Option, Some, None, slice_get, length}
+use Rattle.std.specs.Prelude.{ℕ, ◌≡◌, ◌<◌, ⊤, List, [], Option, Some, None, slice_get, length}
 use Rattle.words.specs.declared.call.Reply.{Reply}
 use Rattle.words.specs.declared.told.Outcome.{Outcome}
 use Rattle.words.specs.declared.told.Outcome.TheVariants.{NotTaken, Taken}
 use Rattle.events.specs.declared.event.Entry.{Entry}
+use Rattle.events.specs.declared.event.History.{History}
+use Rattle.events.specs.declared.event.Order.{Order}
+use Rattle.events.specs.Explains.{IsExplained}
 use Rattle.events.specs.Orders.{IsTakenAs}
 use Rattle.events.specs.Telling.{IsOutcome}
-use Rattle.findings.specs.Findings.{IsLearnt}
+use Rattle.findings.specs.Findings.{Agrees, IsLearnt}
 
 -- what was learnt of the call at p is so in the order
 pub record AgreesAt (learnt : List (Option Outcome)) (order : List Entry) (p : ℕ) : Type 0 where
@@ -29,3 +32,8 @@ IsAgreed NotTaken None = ⊤
 IsAgreed NotTaken (Some reply) = ⊥
 IsAgreed (Taken reply) None = ⊥
 IsAgreed (Taken reply) (Some other) = other ≡ reply
+
+-- the order explains the history, of a queue that was empty at first, and what was learnt is so in it
+abbrev pub IsRight : History → List (Option Outcome) → Order → Type 0
+IsRight history learnt order =
+    IsExplained history order × ((history.base.items ≡ []) × Agrees learnt order.entries.items)

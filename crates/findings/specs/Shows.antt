@@ -21,11 +21,15 @@ use Rattle.findings.specs.Findings.{IsLearnt, IsKnown, IsKnownGot, IsOverBy, Put
 abbrev pub IsNoSource : List Event → List (Option Outcome) → ℕ → ℕ → Type 0
 IsNoSource events learnt take p = Precedes events take p ⊎ IsLearnt learnt p NotTaken
 
+-- and so it is of each put of this value
+abbrev pub NobodyPut : List Event → List (Option Outcome) → ℕ → Value → Type 0
+NobodyPut events learnt take value = (p : ℕ) → PutsAt events p value → IsNoSource events learnt take p
+
 -- a value came out that nobody can have put
 pub record ShowsInvented (events : List Event) (learnt : List (Option Outcome)) (take : ℕ) (value : Value)
     : Type 0 where
   pub got : IsKnownGot events learnt take value
-  pub none : (p : ℕ) → PutsAt events p value → IsNoSource events learnt take p
+  pub none : NobodyPut events learnt take value
 
 -- a value came out twice
 pub record ShowsTwice (events : List Event) (learnt : List (Option Outcome)) (first second : ℕ)
@@ -78,6 +82,11 @@ pub record IsListed (events : List Event) (learnt : List (Option Outcome)) (puts
     (since : Option Since) (take : ℕ) : Type 0 where
   pub contained : CanHaveTaken events learnt puts since take → Contains takes take
 
+-- and so are all takes begun before `bound`
+abbrev pub AreListed : List Event → List (Option Outcome) → ℕ → List ℕ → List ℕ → Option Since → Type 0
+AreListed events learnt bound puts takes since =
+    (take : ℕ) → take < bound → IsListed events learnt puts takes since take
+
 -- a put that is known to have taken effect
 pub record IsKnownPut (events : List Event) (learnt : List (Option Outcome)) (put : ℕ) : Type 0 where
   pub value : Value
@@ -90,7 +99,7 @@ pub record IsFew (events : List Event) (learnt : List (Option Outcome)) (bound :
   pub certain : All (λ put. IsKnownPut events learnt put) puts
   pub different : AllPairs (λ p q. p ≢ q) puts
   pub in_since : AreInSince events learnt puts since
-  pub listed : (take : ℕ) → take < bound → IsListed events learnt puts takes since take
+  pub listed : AreListed events learnt bound puts takes since
   pub fewer : length takes < length puts
 
 -- the value of the put is known to have come out, by a take that began at `bound` or later

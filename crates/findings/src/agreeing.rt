@@ -1,9 +1,8 @@
 //! Whether an order agrees with what was learnt, beside explaining a history.
 
-ghost use Rattle.std.specs.Prelude.{◌≡◌, ◌<◌, ◌≤◌, ◌+◌, ◌↔◌, [], length, EachIndex, IfErr, IfOk, IsTrue};
-ghost use Rattle.events.specs.Explains.{IsExplained};
+ghost use Rattle.std.specs.Prelude.{◌≡◌, ◌<◌, ◌≤◌, ◌+◌, ◌↔◌, length, EachIndex, IfErr, IfOk, IsTrue};
 ghost use Rattle.events.specs.Orders.{IsNew};
-ghost use Rattle.findings.specs.Agreeing.{AgreesAt, IsAgreed, IsTableOf};
+ghost use Rattle.findings.specs.Agreeing.{AgreesAt, IsAgreed, IsRight, IsTableOf};
 ghost use Rattle.findings.specs.Findings.{Agrees, ExplainsFindings};
 
 use events::{Entry, History, Order, is_same_reply};
@@ -93,8 +92,7 @@ pub fn explains_known(
     learnt: &[Option<Outcome>],
     order: &Order,
 ) -> Result<bool, Refusal>
-    ensures right { IfOk result (λ yes. IsTrue yes ↔ (IsExplained history.now order.now
-        × ((history.now.base.items ≡ []) × Agrees learnt.now order.now.entries.items))) }
+    ensures right { IfOk result (λ yes. IsTrue yes ↔ IsRight history.now learnt.now order.now) }
     ensures explained { IfOk result (λ yes. IsTrue yes
         → ExplainsFindings history.now.events.items learnt.now order.now.entries.items) }
     ensures errors { IfErr result (λ e. e ≡ Refusal.NoMemory) }

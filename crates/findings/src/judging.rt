@@ -3,7 +3,7 @@
 ghost use Rattle.std.specs.Prelude.{◌≡◌, ◌<◌, ◌≤◌, ◌⊎◌, ℕ, length, IsTrue, All, List, Option};
 ghost use Rattle.events.specs.History.{Precedes};
 ghost use Rattle.findings.specs.Findings.{HasNoOrder, IsOverBy, PutsAt};
-ghost use Rattle.findings.specs.Shows.{IsNoSource, IsPutOf, IsShown, Shows, ShowsInvented, ShowsTwice};
+ghost use Rattle.findings.specs.Shows.{IsNoSource, IsPutOf, NobodyPut, IsShown, Shows, ShowsInvented, ShowsTwice};
 ghost use Rattle.findings.specs.Shows.{ShowsPassedOver, IsHeld, IsCovered, ShowsNotEmpty};
 
 use crate::distinct::values_rise;
@@ -38,8 +38,7 @@ fn did_not_put(
 
 /// Whether nobody can have put the value before the take.
 fn nobody_put(events: &Events, learnt: &[Option<Outcome>], take: usize, value: &Value) -> bool
-    ensures { IsTrue result
-        → ((p : ℕ) → PutsAt events.now.items p value.now → IsNoSource events.now.items learnt.now take p) }
+    ensures { IsTrue result → NobodyPut events.now.items learnt.now take value.now }
 {
     for k in 0..events.len() {
         if !did_not_put(events, learnt, take, value, k) {

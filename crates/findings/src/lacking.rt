@@ -1,9 +1,9 @@
 //! Whether takes lack: whether those that began before a bound cannot have taken all values of some puts.
 
-ghost use Rattle.std.specs.Prelude.{◌≡◌, ◌<◌, ◌≤◌, ◌↔◌, ℕ, length, IsTrue, All, Any, Contains, Option};
+ghost use Rattle.std.specs.Prelude.{◌≡◌, ◌<◌, ◌≤◌, ◌↔◌, length, IsTrue, All, Any, Contains, Option};
 ghost use Rattle.words.specs.declared.call.Reply.TheVariants.{Got};
 ghost use Rattle.findings.specs.Findings.{IsKnownGot, PutsAt};
-ghost use Rattle.findings.specs.Shows.{IsAhead, IsInAt, AreInSince, WasOver, IsValueOf, CanHaveTaken, IsListed};
+ghost use Rattle.findings.specs.Shows.{IsAhead, IsInAt, AreInSince, WasOver, IsValueOf, CanHaveTaken, AreListed, IsListed};
 ghost use Rattle.findings.specs.Shows.{IsKnownPut, IsFew, IsLate, Lacks};
 
 use crate::distinct::numbers_rise;
@@ -134,8 +134,7 @@ fn are_listed(
     takes: &[usize],
     since: &Option<Since>,
 ) -> bool
-    ensures { IsTrue result → ((take : ℕ) → take < bound
-        → IsListed events.now.items learnt.now puts.now takes.now since.now take) }
+    ensures { IsTrue result → AreListed events.now.items learnt.now bound puts.now takes.now since.now }
 {
     for k in 0..bound.min(events.len()) {
         if !is_listed(events, learnt, puts, takes, since, k) {

@@ -102,3 +102,10 @@ pub record SaysQueue (line : List ℕ) (queue : QueueLine) : Type 0 where
 pub record SaysCommand (line : List ℕ) (command : Command) : Type 0 where
   pub words : words_of line ≡ command_words command
   pub served : IsServed command
+
+-- it says this command, which a queue of this kind has; or none that it has
+abbrev pub SaysOn : Kind → List ℕ → Command → Type 0
+SaysOn kind line command = SaysCommand line command × (is_on kind command ≡ true)
+
+abbrev pub SaysNoneOn : Kind → List ℕ → Type 0
+SaysNoneOn kind line = (command : Command) → SaysCommand line command → is_on kind command ≡ true → ⊥

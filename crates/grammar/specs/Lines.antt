@@ -14,6 +14,13 @@ lines_of text = slice_split (λ byte. byte == 10) (without_last_newline text)
 abbrev pub words_of : List ℕ → List (List ℕ)
 words_of line = slice_split (λ byte. byte == 32) line
 
+-- a line begins with this word, and has the words of the rest behind it; or nothing stands behind such a word
+abbrev pub BeginsWith : List ℕ → List ℕ → List ℕ → Type 0
+BeginsWith line word rest = words_of line ≡ word ∷ words_of rest
+
+abbrev pub NothingFollows : List ℕ → List ℕ → Type 0
+NothingFollows line word = (rest : List (List ℕ)) → words_of line ≡ word ∷ rest → rest ≡ []
+
 -- whether a line says something: an empty line and a comment, which begins with `#`, are skipped
 abbrev pub is_statement : List ℕ → Bool
 is_statement [] = false

@@ -1,9 +1,9 @@
 //! The words of a line, and the numbers and values among them.
 
-ghost use Rattle.std.specs.Prelude.{◌≡◌, ◌≢◌, ◌↔◌, ◌==◌, ◌<◌, ◌^◌, ℕ, List, ◌∷◌, [], MatchOption, IsTrue, decimal, position, false};
+ghost use Rattle.std.specs.Prelude.{◌≡◌, ◌≢◌, ◌↔◌, ◌==◌, ◌<◌, ◌^◌, ℕ, ◌∷◌, [], MatchOption, IsTrue, decimal, position, false};
 ghost use Rattle.words.specs.PlainQueue.{Value, FitsValue};
 ghost use Rattle.words.specs.Text.{value_text};
-ghost use Rattle.grammar.specs.Lines.{words_of, HasPlainStart};
+ghost use Rattle.grammar.specs.Lines.{words_of, BeginsWith, HasPlainStart, NothingFollows};
 ghost use Rattle.grammar.specs.Limits.{IsWithin};
 ghost use Rattle.grammar.specs.Reading.{Reads, Reads₂, Reads₃};
 
@@ -71,7 +71,7 @@ fn first_space(text: &[u8]) -> Option<usize>
 /// The first word of a text, and what follows the space after it, if it has one. A word may be empty.
 pub fn first_word(text: &[u8]) -> (&[u8], Option<&[u8]>)
     ensures { MatchOption result.1 (words_of text.now ≡ result.0.now ∷ [])
-        (λ rest. words_of text.now ≡ result.0.now ∷ words_of rest.now) }
+        (λ rest. BeginsWith text.now result.0.now rest.now) }
 {
     match first_space(text) {
         None => (text, None),
@@ -81,8 +81,8 @@ pub fn first_word(text: &[u8]) -> (&[u8], Option<&[u8]>)
 
 /// What follows a name and one space.
 pub fn after_name<'a>(line: &'a [u8], name: &[u8]) -> Option<&'a [u8]>
-    ensures { MatchOption result ((rest : List (List ℕ)) → words_of line.now ≡ name.now ∷ rest → rest ≡ [])
-        (λ rest. words_of line.now ≡ name.now ∷ words_of rest.now) }
+    ensures { MatchOption result (NothingFollows line.now name.now)
+        (λ rest. BeginsWith line.now name.now rest.now) }
 {
     let (word, rest) = first_word(line);
     if word == name { rest } else { None }

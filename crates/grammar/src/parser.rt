@@ -2,8 +2,7 @@
 
 ghost use Rattle.std.specs.Prelude.{MatchOption, ◌≡◌, Ok, IfOk, IfErr, Option, None, Some, true, false};
 ghost use Rattle.grammar.specs.Lines.{lines_of};
-ghost use Rattle.grammar.specs.Grammar.{SaysCommand, is_on};
-ghost use Rattle.grammar.specs.declared.commands.Command.{Command};
+ghost use Rattle.grammar.specs.Grammar.{SaysNoneOn, SaysOn};
 ghost use Rattle.grammar.specs.Script.{Says, IsWhyUnread, Continues, EndsBadly};
 
 use crate::commands::{Command, QueueLine};
@@ -16,8 +15,7 @@ use words::{Kind, Refusal};
 
 /// The command of a line, where a queue of this kind has it.
 fn command_on(kind: Kind, line: &[u8]) -> Option<Command>
-    ensures { MatchOption result ((command : Command) → SaysCommand line.now command → is_on kind command ≡ true → ⊥)
-        (λ command. SaysCommand line.now command × (is_on kind command ≡ true)) }
+    ensures { MatchOption result (SaysNoneOn kind line.now) (SaysOn kind line.now) }
 {
     let command = command(line)?;
     if is_on(kind, &command) {

@@ -1,9 +1,9 @@
 //! The lines that are served, a row for each. They are tried in turn: a line has the words of one row at most.
 
-ghost use Rattle.std.specs.Prelude.{◌≡◌, ℕ, List, [], ◌∷◌, MatchOption};
+ghost use Rattle.std.specs.Prelude.{◌≡◌, MatchOption};
 ghost use Rattle.words.specs.declared.call.Client.{Client};
 ghost use Rattle.words.specs.declared.call.Kind.{Kind};
-ghost use Rattle.grammar.specs.Lines.{words_of};
+ghost use Rattle.grammar.specs.Lines.{BeginsWith, NothingFollows};
 ghost use Rattle.grammar.specs.Grammar.{SaysQueue, SaysCommand, kind_word, is_on, is_shown};
 ghost use Rattle.grammar.specs.Reading.{SaysNone, SaysNone₂, SaysNone₃};
 ghost use Rattle.grammar.specs.Rows.{IsNoCall, IsNoMemoryLine, IsNoCrashLine};
@@ -19,9 +19,8 @@ use words::{Client, Kind};
 
 /// The kind of a queue, and what follows it.
 pub fn kind(text: &[u8]) -> Option<(Kind, &[u8])>
-    ensures { MatchOption result
-        ((kind : Kind) (rest : List (List ℕ)) → words_of text.now ≡ kind_word kind ∷ rest → rest ≡ [])
-        (λ r. words_of text.now ≡ kind_word r.0 ∷ words_of r.1.now) }
+    ensures { MatchOption result ((kind : Kind) → NothingFollows text.now (kind_word kind))
+        (λ r. BeginsWith text.now (kind_word r.0) r.1.now) }
 {
     if let Some(rest) = after_name(text, b"durable") {
         return Some((Kind::Durable, rest));

@@ -55,6 +55,13 @@ kept_place kind (KeepClaim p) = Mark p.claimed.next
 kept_place kind (KeepResult p) =
     (result_of kind (winner p.claimed.claim p.claimed.token) p.claimed.next).place
 
+-- the two accesses that keep a word: it is asked for, and then waited for
+abbrev pub flush_of : Shape → Keeping → Access Place
+flush_of s k = Flush (kept_place s.kind k)
+
+abbrev pub fence_of : Shape → Keeping → Access Place
+fence_of s k = Fence (kept_place s.kind k)
+
 -- the one access of each waiting point
 abbrev pub access_of : Kind → Op → Access Place
 access_of kind (PrepareStore p) = prepare_access (prepare_store p)

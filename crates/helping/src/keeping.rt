@@ -3,12 +3,11 @@
 //! its fence, with the must-fail edit that shows it.
 
 ghost use Rattle.std.specs.Prelude.{◌≡◌, ◌≤◌, length, None};
-ghost use Rattle.persist.specs.Memory.{Fence, Flush};
 ghost use Rattle.arena.specs.Layout.{size_of};
 ghost use Rattle.arena.specs.Place.{IsPlace};
 ghost use Rattle.stepper.specs.Step.{after_one, change_by, lent_after_one, IsAskedFor};
 ghost use Rattle.stepper.specs.declared.resume.After.TheVariants.{More};
-ghost use Rattle.helping.specs.Table.{IsKeeping, after_keeping, kept_place};
+ghost use Rattle.helping.specs.Table.{IsKeeping, after_keeping, fence_of, flush_of, kept_place};
 ghost use Rattle.helping.specs.declared.op.Op.TheVariants.{Fence as FencePoint};
 
 use crate::Op;
@@ -132,10 +131,8 @@ impl Keeping {
     pub(crate) fn ask<M: WordMemory>(self, layout: &Layout, memory: &mut M) -> Stepped<Op, Reply>
         requires room { size_of layout.now ≤ length (M.words memory.old).cached }
         requires point { IsKeeping layout.now self }
-        ensures one_access { let s = layout.now in
-            M.words memory.new ≡ after_one s (Flush (kept_place s.kind self)) (M.words memory.old) }
-        ensures lent { let s = layout.now in
-            M.lent memory.new ≡ lent_after_one s (Flush (kept_place s.kind self)) (M.lent memory.old) }
+        ensures one_access { M.words memory.new ≡ after_one layout.now (flush_of layout.now self) (M.words memory.old) }
+        ensures lent { M.lent memory.new ≡ lent_after_one layout.now (flush_of layout.now self) (M.lent memory.old) }
         ensures next { result.after ≡ More (FencePoint self) }
         ensures change { result.change ≡ None }
     {
@@ -151,15 +148,11 @@ impl Keeping {
         memory: &mut M,
     ) -> Stepped<Op, Reply>
         requires point { IsKeeping layout.now self }
-        requires asked { let s = layout.now in
-            IsAskedFor s (Fence (kept_place s.kind self)) (M.lent memory.old).request }
-        ensures one_access { let s = layout.now in
-            M.words memory.new ≡ after_one s (Fence (kept_place s.kind self)) (M.words memory.old) }
-        ensures lent { let s = layout.now in
-            M.lent memory.new ≡ lent_after_one s (Fence (kept_place s.kind self)) (M.lent memory.old) }
+        requires asked { IsAskedFor layout.now (fence_of layout.now self) (M.lent memory.old).request }
+        ensures one_access { M.words memory.new ≡ after_one layout.now (fence_of layout.now self) (M.words memory.old) }
+        ensures lent { M.lent memory.new ≡ lent_after_one layout.now (fence_of layout.now self) (M.lent memory.old) }
         ensures next { result.after ≡ after_keeping self }
-        ensures change { let s = layout.now in
-            result.change ≡ change_by s (Fence (kept_place s.kind self)) (M.words memory.old) }
+        ensures change { result.change ≡ change_by layout.now (fence_of layout.now self) (M.words memory.old) }
     {
         let change = fence_at(layout, memory, self.place(layout));
         Stepped {

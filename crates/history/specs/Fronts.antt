@@ -6,6 +6,7 @@ use Rattle.words.specs.declared.call.Reply.TheVariants.{Got, Empty}
 use Rattle.events.specs.declared.event.Event.{Event}
 use Rattle.events.specs.declared.event.Entry.{Entry}
 use Rattle.history.specs.Counting.{values_of_order}
+use Rattle.history.specs.declared.fronts.Fronts.{Fronts}
 use Rattle.events.specs.Replay.{queue_after}
 
 -- the values that the entries from one place up to another put into the queue
@@ -15,6 +16,10 @@ values_between events order from to = values_of_order events (drop from (take to
 -- what the queue holds before the entry at `to`
 abbrev pub queue_from : List Event → List Value → List Entry → ℕ → ℕ → ℕ → List Value
 queue_from events base order taken from to = drop taken base ++ values_between events order from to
+
+-- so it is where its front stands there
+abbrev pub queue_at : List Event → List Value → List Entry → Fronts → ℕ → List Value
+queue_at events base order fronts to = queue_from events base order fronts.base fronts.entry to
 
 -- what a dequeue answers whose queue has this front
 abbrev pub reply_of_front : Option Value → Reply

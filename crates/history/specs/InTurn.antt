@@ -4,6 +4,9 @@ use Rattle.words.specs.PlainQueue.{Value, reply_of, served}
 use Rattle.words.specs.declared.call.Call.{Call}
 use Rattle.words.specs.declared.call.Client.{Client}
 use Rattle.words.specs.declared.call.Reply.{Reply}
+use Rattle.words.specs.declared.told.Told.{Told}
+use Rattle.events.specs.Explains.{Explains}
+use Rattle.events.specs.Replay.{queue_after}
 use Rattle.events.specs.declared.event.Event.{Event}
 use Rattle.events.specs.declared.event.Event.TheVariants.{Call as call_event, Return as return_event}
 use Rattle.events.specs.declared.event.Entry.{Entry}
@@ -34,3 +37,11 @@ order_in_turn place (turn ∷ turns) =
 -- what the plain queue holds after them
 abbrev pub queue_in_turn : List Value → List Turn → List Value
 queue_in_turn base turns = fold (λ queue turn. served queue turn.call) base turns
+
+-- this order explains the events of these turns, from this base, whatever was told before
+abbrev pub ExplainsTurns : Client → List Turn → List Value → List Entry → Type 0
+ExplainsTurns client turns base order = (told : List Told) × Explains base told (events_in_turn client turns) order
+
+-- what its replay leaves
+abbrev pub left_after : Client → List Turn → List Value → List Entry → List Value
+left_after client turns base order = queue_after (events_in_turn client turns) base order

@@ -13,3 +13,5 @@ pub mod Sweeps
 pub mod Fronts
 pub mod Hearing
 pub mod InTurn
+pub mod Listening
+pub mod Replaying

@@ -14,6 +14,10 @@ use Rattle.events.specs.Telling.{TellsAt, IsToldIfInterrupted}
 use Rattle.events.specs.Explains.{IsAnswered}
 use Rattle.events.specs.Orders.{IsTakenAs}
 
+-- so it is of each event at its place
+abbrev pub EachEvent : List Event → (ℕ → Event → Type 0) → Type 0
+EachEvent events claim = (p : ℕ) (event : Event) → slice_get events p ≡ Some event → claim p event
+
 -- one of the first n entries has this place
 pub record HasPlace (order : List Entry) (n place : ℕ) : Type 0 where
   pub index : ℕ

@@ -4,7 +4,7 @@ ghost use Rattle.std.specs.Prelude.{◌≡◌, ◌<◌, ◌≤◌, ◌+◌, ◌�
 ghost use Rattle.words.specs.declared.call.Client.{Client};
 ghost use Rattle.events.specs.declared.event.Event.{Event};
 ghost use Rattle.events.specs.History.{IsDown, IsUnderWay, IsHistory};
-ghost use Rattle.history.specs.Sweeps.{HasClient, StandsUp, StandsInTurn, IsInTurn};
+ghost use Rattle.history.specs.Sweeps.{EachEvent, HasClient, StandsUp, StandsInTurn, IsInTurn};
 
 use crate::places::has_one_kind;
 use events::{Event, Events};
@@ -60,8 +60,7 @@ fn stands_up(events: &Events, p: usize, event: &Event, down: bool) -> bool
 
 /// Whether so it is of each event.
 fn all_stand_up(events: &Events) -> bool
-    ensures { IsTrue result ↔
-        ((p : ℕ) (event : Event) → slice_get events.now.items p ≡ Some event → StandsUp events.now.items p event) }
+    ensures { IsTrue result ↔ EachEvent events.now.items (StandsUp events.now.items) }
 {
     let mut down = false;
     for p in 0..events.len() {

@@ -2,7 +2,7 @@
 
 ghost use Rattle.std.specs.Prelude.{◌≡◌, ◌<◌, ◌≤◌, ◌+◌, ◌↔◌, ◌++◌, [], length, IsTrue, IfNone, take, option_to_list};
 ghost use Rattle.history.specs.Counting.{values_of_order};
-ghost use Rattle.history.specs.Fronts.{values_between, queue_from, reply_of_front, IsFront};
+ghost use Rattle.history.specs.Fronts.{values_between, queue_at, reply_of_front, IsFront};
 ghost use Rattle.events.specs.Replay.{queue_after, IsRightAt, Replays};
 
 use crate::replaying::{named_call, value_put};
@@ -50,10 +50,9 @@ fn take_front(
     requires within { to ≤ length entries.now }
     ensures base { fronts.new.base ≤ length base.now }
     ensures entry { fronts.new.entry ≤ to }
-    ensures front { queue_from events.now.items base.now entries.now fronts.old.base fronts.old.entry to ≡
-        option_to_list result ++ queue_from events.now.items base.now entries.now fronts.new.base fronts.new.entry to }
-    ensures none { IfNone result
-        (queue_from events.now.items base.now entries.now fronts.old.base fronts.old.entry to ≡ []) }
+    ensures front { queue_at events.now.items base.now entries.now fronts.old to ≡
+        option_to_list result ++ queue_at events.now.items base.now entries.now fronts.new to }
+    ensures none { IfNone result (queue_at events.now.items base.now entries.now fronts.old to ≡ []) }
 {
     if fronts.base < base.len() {
         let value = base[fronts.base];

@@ -8,6 +8,7 @@ ghost use Rattle.history.specs.Hearing.{IsOutcomeTaken, IsRowTaken, SaysTaken, S
 ghost use Rattle.history.specs.Hearing.{IsToldNotTakenIn, IsLastEntry, IsLast, SaysLast, IsSaidLast, IsProgress};
 ghost use Rattle.history.specs.Hearing.{IsProgressTo, HasNoCall, IsToldAt, IsToldOfAll, BeginsSomeTold, IsLaterEntry};
 ghost use Rattle.history.specs.Hearing.{TellsSixteen};
+ghost use Rattle.history.specs.Listening.{IsProgressAt, IsProgressUpTo, IsToldRightly};
 ghost use Rattle.events.specs.Explains.{KeepsPrecedence};
 ghost use Rattle.events.specs.History.{IsHistory};
 ghost use Rattle.history.specs.Sweeps.{Ascends};
@@ -189,13 +190,10 @@ fn tells_it_rightly(
     requires calls { All (λ entry. entry.place < length who.now.events.now.items) who.now.entries.now }
     requires once { EachIndex who.now.entries.now (λ i. IsNew who.now.entries.now i) }
     requires ready { q ≤ length who.now.events.now.items }
-    requires progress { IsProgress who.now.kind who.now.events.now.items who.now.entries.now who.now.client q
-        progress.from progress.last }
+    requires progress { IsProgressAt who.now q progress }
     requires few { progress.calls ≤ q }
     requires later { HasNoCall who.now.kind who.now.events.now.items who.now.client progress.calls q }
-    ensures { IsTrue result ↔
-        IsToldSome who.now.kind who.now.events.now.items who.now.entries.now who.now.client q told.now
-        ⊎ IsToldBase who.now.kind base.now who.now.events.now.items who.now.entries.now who.now.client q told.now }
+    ensures { IsTrue result ↔ IsToldRightly who.now base.now q told.now }
 {
     if says_of_last(who, told, progress.last) {
         return true;
@@ -237,10 +235,8 @@ fn after_entry(who: &Listener, q: usize, i: usize, progress: Progress) -> Progre
     requires calls { All (λ entry. entry.place < length who.now.events.now.items) who.now.entries.now }
     requires ascends { Ascends who.now.events.now.items who.now.entries.now who.now.client }
     requires earlier { IsLaterEntry who.now.events.now.items who.now.entries.now who.now.client q i → ⊥ }
-    requires so_far { IsProgressTo who.now.kind who.now.events.now.items who.now.entries.now who.now.client q
-        progress.from progress.last i }
-    ensures so_far { IsProgressTo who.now.kind who.now.events.now.items who.now.entries.now who.now.client q
-        result.from result.last (i + 1) }
+    requires so_far { IsProgressUpTo who.now q progress i }
+    ensures so_far { IsProgressUpTo who.now q result (i + 1) }
     ensures calls { result.calls ≡ progress.calls }
 {
     let place = who.entries[i].place;
@@ -259,13 +255,10 @@ fn before_ready(who: &Listener, q: usize, progress: Progress) -> Progress
     requires calls { All (λ entry. entry.place < length who.now.events.now.items) who.now.entries.now }
     requires ascends { Ascends who.now.events.now.items who.now.entries.now who.now.client }
     requires entries { progress.entries ≤ length who.now.entries.now }
-    requires so_far { IsProgressTo who.now.kind who.now.events.now.items who.now.entries.now who.now.client q
-        progress.from progress.last progress.entries }
+    requires so_far { IsProgressUpTo who.now q progress progress.entries }
     ensures entries { result.entries ≤ length who.now.entries.now }
-    ensures so_far { IsProgressTo who.now.kind who.now.events.now.items who.now.entries.now who.now.client q
-        result.from result.last result.entries }
-    ensures progress { IsProgress who.now.kind who.now.events.now.items who.now.entries.now who.now.client q
-        result.from result.last }
+    ensures so_far { IsProgressUpTo who.now q result result.entries }
+    ensures progress { IsProgressAt who.now q result }
     ensures calls { result.calls ≡ progress.calls }
 {
     let mut now = progress;
@@ -312,8 +305,7 @@ fn is_told_at(
     requires calls { All (λ entry. entry.place < length who.now.events.now.items) who.now.entries.now }
     requires once { EachIndex who.now.entries.now (λ i. IsNew who.now.entries.now i) }
     requires ready { q < length who.now.events.now.items }
-    requires progress { IsProgress who.now.kind who.now.events.now.items who.now.entries.now who.now.client q
-        progress.from progress.last }
+    requires progress { IsProgressAt who.now q progress }
     requires few { progress.calls ≤ q }
     requires later { HasNoCall who.now.kind who.now.events.now.items who.now.client progress.calls q }
     ensures told { IsTrue result ↔

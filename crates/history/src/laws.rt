@@ -3,24 +3,21 @@
 ghost use Rattle.std.specs.Prelude.{◌≡◌, List};
 ghost use Rattle.words.specs.PlainQueue.{Value};
 ghost use Rattle.words.specs.declared.call.Client.{Client};
-ghost use Rattle.words.specs.declared.told.Told.{Told};
-ghost use Rattle.events.specs.Explains.{Explains};
-ghost use Rattle.history.specs.InTurn.{Turn, events_in_turn, AreServed, order_in_turn, queue_in_turn};
-ghost use Rattle.events.specs.Replay.{queue_after};
+ghost use Rattle.history.specs.InTurn.{Turn, AreServed, ExplainsTurns, left_after, order_in_turn, queue_in_turn};
 ghost use Rattle.events.specs.declared.event.Entry.{Entry};
 
 /// Whatever order explains them, a client's calls that run to their ends one after another are answered by the plain
 /// queue.
 pub fn calls_in_turn_are_served()
-    ensures { (client : Client) (turns : List Turn) (base : List Value) (told : List Told) (order : List Entry)
-        → Explains base told (events_in_turn client turns) order → AreServed base turns }
+    ensures { (client : Client) (turns : List Turn) (base : List Value) (order : List Entry)
+        → ExplainsTurns client turns base order → AreServed base turns }
 {}
 
 /// Only the order in which they were made explains such calls, and it leaves what the plain queue leaves.
 pub fn calls_in_turn_have_one_order()
-    ensures order { (client : Client) (turns : List Turn) (base : List Value) (told : List Told) (order : List Entry)
-        → Explains base told (events_in_turn client turns) order → order ≡ order_in_turn 0 turns }
-    ensures left { (client : Client) (turns : List Turn) (base : List Value) (told : List Told) (order : List Entry)
-        → Explains base told (events_in_turn client turns) order
-        → queue_after (events_in_turn client turns) base order ≡ queue_in_turn base turns }
+    ensures order { (client : Client) (turns : List Turn) (base : List Value) (order : List Entry)
+        → ExplainsTurns client turns base order → order ≡ order_in_turn 0 turns }
+    ensures left { (client : Client) (turns : List Turn) (base : List Value) (order : List Entry)
+        → ExplainsTurns client turns base order
+        → left_after client turns base order ≡ queue_in_turn base turns }
 {}

@@ -4,6 +4,7 @@ ghost use Rattle.std.specs.Prelude.{◌≡◌, ◌+◌, ◌^◌, ◌<◌, ◌≤
 ghost use Rattle.events.specs.declared.event.Event.{Event};
 ghost use Rattle.events.specs.History.{BeginsAt, EndsAt, Precedes, IsOpenFrom, IsUnderWay, IsDown, MayStand};
 ghost use Rattle.events.specs.History.{IsDurable, IsNumbered, IsUnnumbered, IsHistory};
+ghost use Rattle.history.specs.Sweeps.{EachEvent};
 
 use events::{Event, Events};
 use words::Client;
@@ -110,8 +111,7 @@ fn may_stand(events: &Events, p: usize, event: &Event) -> bool
 
 /// Whether each event may stand where it stands.
 fn may_all_stand(events: &Events) -> bool
-    ensures { IsTrue result ↔
-        ((p : ℕ) (event : Event) → slice_get events.now.items p ≡ Some event → MayStand events.now.items p event) }
+    ensures { IsTrue result ↔ EachEvent events.now.items (MayStand events.now.items) }
 {
     for p in 0..events.len() {
         if !may_stand(events, p, &events.at(p)) {

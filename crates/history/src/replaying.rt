@@ -1,10 +1,11 @@
 //! The replay of an order on a plain queue.
 
-ghost use Rattle.std.specs.Prelude.{◌≡◌, ◌<◌, ◌≤◌, ◌↔◌, ◌++◌, length, IsTrue, IfOk, IfErr, MatchResult, slice_get};
-ghost use Rattle.std.specs.Prelude.{drop, option_to_list};
+ghost use Rattle.std.specs.Prelude.{◌≡◌, ◌<◌, ◌≤◌, ◌↔◌, ◌++◌, length, IsTrue, IfOk, IfErr, slice_get};
+ghost use Rattle.std.specs.Prelude.{option_to_list};
 ghost use Rattle.words.specs.PlainQueue.{reply_of, served};
-ghost use Rattle.history.specs.Counting.{values_of_call, values_of_order, dequeue_count};
+ghost use Rattle.history.specs.Counting.{HasAllButFirst, values_of_call, values_of_order, dequeue_count};
 ghost use Rattle.events.specs.Replay.{call_at, queue_after_call, queue_after, IsServed, Replays, IsFirstWrong};
+ghost use Rattle.history.specs.Replaying.{IsFirstWrongIn, ReplaysIn, left_by};
 
 use events::{Entry, Event, Events, History, Order, is_same_reply};
 use std::alloc::{AllocError, Global};
@@ -70,10 +71,10 @@ fn replay_from(
     base: &[Value],
     entries: &[Entry],
 ) -> Result<Result<Vec<Value>, usize>, AllocError>
-    ensures { IfOk result (λ answer. MatchResult answer
-        (λ left. Replays events.now.items base.now entries.now
-        × (left.items ≡ queue_after events.now.items base.now entries.now))
-        (λ i. IsFirstWrong events.now.items base.now entries.now i)) }
+    ensures right { IfOk result (λ answer. IfOk answer (λ left. Replays events.now.items base.now entries.now)) }
+    ensures left { IfOk result (λ answer. IfOk answer
+        (λ left. left.items ≡ queue_after events.now.items base.now entries.now)) }
+    ensures wrong { IfOk result (λ answer. IfErr answer (IsFirstWrong events.now.items base.now entries.now)) }
 {
     let mut queue = Vec::from_slice(alloc, base)?;
     for (i, entry) in entries.iter().enumerate() {
@@ -91,10 +92,9 @@ pub fn replay(
     history: &History,
     order: &Order,
 ) -> Result<Result<Vec<Value>, usize>, Refusal>
-    ensures replay { IfOk result (λ answer. MatchResult answer
-        (λ left. Replays history.now.events.items history.now.base.items order.now.entries.items
-        × (left.items ≡ queue_after history.now.events.items history.now.base.items order.now.entries.items))
-        (λ i. IsFirstWrong history.now.events.items history.now.base.items order.now.entries.items i)) }
+    ensures right { IfOk result (λ answer. IfOk answer (λ left. ReplaysIn history.now order.now)) }
+    ensures left { IfOk result (λ answer. IfOk answer (λ left. left.items ≡ left_by history.now order.now)) }
+    ensures wrong { IfOk result (λ answer. IfErr answer (IsFirstWrongIn history.now order.now)) }
     ensures errors { IfErr result (λ e. e ≡ Refusal.NoMemory) }
 {
     match replay_from(
@@ -141,8 +141,7 @@ fn value_at(events: &Events, base: &[Value], before: &[Entry], n: usize) -> Opti
 
 /// The queue's reply to a call, where `taken` values were taken out before.
 fn reply_after(events: &Events, base: &[Value], before: &[Entry], taken: usize, call: Call) -> Reply
-    requires { queue_after events.now.items base.now before.now ≡
-        drop taken (base.now ++ values_of_order events.now.items before.now) }
+    requires { HasAllButFirst events.now.items base.now before.now taken }
     ensures { result ≡ reply_of (queue_after events.now.items base.now before.now) call }
 {
     match call {
@@ -162,8 +161,7 @@ fn is_served_after(
     taken: usize,
     entry: &Entry,
 ) -> bool
-    requires { queue_after events.now.items base.now before.now ≡
-        drop taken (base.now ++ values_of_order events.now.items before.now) }
+    requires { HasAllButFirst events.now.items base.now before.now taken }
     ensures { IsTrue result ↔ IsServed events.now.items (queue_after events.now.items base.now before.now) entry.now }
 {
     match named_call(events, entry.place) {

@@ -4,6 +4,7 @@ ghost use Rattle.std.specs.Prelude.{◌≡◌, ◌<◌, ◌≤◌, ◌↔◌, �
 ghost use Rattle.events.specs.Telling.{IsToldOf, BeginsTaken, HasNoneTaken, IsOutcome, IsRow, Says, IsToldCall};
 ghost use Rattle.events.specs.Telling.{IsToldSome, IsToldBase, TellsRightly, TellsAt, IsToldTaken};
 ghost use Rattle.events.specs.Telling.{IsToldIfInterrupted};
+ghost use Rattle.history.specs.Listening.{IsToldRightly};
 
 use crate::ordering::{in_order, is_taken_as};
 use events::{Entry, Event, Events, is_same_told};
@@ -148,9 +149,7 @@ fn is_told_base(who: &Listener, base: &Reports, ready: usize, told: &Told) -> bo
 /// Whether the client is told the one or the other.
 fn is_told_rightly(who: &Listener, base: &Reports, ready: usize, told: &Told) -> bool
     requires { ready ≤ length who.now.events.now.items }
-    ensures { IsTrue result ↔
-        IsToldSome who.now.kind who.now.events.now.items who.now.entries.now who.now.client ready told.now
-        ⊎ IsToldBase who.now.kind base.now who.now.events.now.items who.now.entries.now who.now.client ready told.now }
+    ensures { IsTrue result ↔ IsToldRightly who.now base.now ready told.now }
 {
     is_told_some(who, ready, told) || is_told_base(who, base, ready, told)
 }

@@ -4,14 +4,14 @@ use Rattle.std.specs.Prelude.{ℕ, zero, suc, Bool, false, List, Option, Some, N
 use Rattle.words.specs.declared.call.Client.{Client}
 use Rattle.words.specs.declared.limits.TheConstants.{RECOVERY_PORT}
 use Rattle.words.specs.declared.refusal.Refusal.{Refusal}
-use Rattle.persist.specs.Memory.{Lent, MemoryState, Request, asked_through, seen_whole}
+use Rattle.persist.specs.Memory.{Lent, MemoryState, Request, Words, asked_through, seen_whole}
 use Rattle.arena.specs.Shape.{Shape}
 use Rattle.stepper.specs.Step.{IsAskedFor, lent_after_one}
 use Rattle.helping.specs.Table.{access_of}
 use Rattle.recover.specs.Table.{access_of as recovery_access}
 use Rattle.recover.specs.declared.recovery.Recovery.{Recovery}
 use Rattle.protocol.specs.declared.UnderWay.{UnderWay}
-use Rattle.interleave.specs.Calls.{waiting_result}
+use Rattle.interleave.specs.Calls.{is_no_memory, waiting_result}
 use Rattle.interleave.specs.Core.{CoreState, state_of}
 use Rattle.interleave.specs.Holds.{Holds}
 use Rattle.interleave.specs.State.{State, after_alone, is_down}
@@ -63,3 +63,13 @@ recovery_lent_with full w lent (Some r) =
 
 abbrev pub lent_after_recover : Bool → State → Lent → Lent
 lent_after_recover full w lent = recovery_lent_with full w lent w.recovery
+
+-- the same of a core over words: of a step that answered so, of so many steps alone, and of recovery's step
+abbrev pub lent_once_stepped : {X : Type 0} → Result X Refusal → Client → CoreState → Words → Lent → Lent
+lent_once_stepped result client c ws lent = lent_after_step (is_no_memory result) (state_of c ws) client lent
+
+abbrev pub lent_once_answered : ℕ → Client → CoreState → Words → Lent → Lent
+lent_once_answered steps client c ws lent = lent_after_alone steps (state_of c ws) client lent
+
+abbrev pub lent_once_recovered : {X : Type 0} → Result X Refusal → CoreState → Words → Lent → Lent
+lent_once_recovered result c ws lent = lent_after_recover (is_no_memory result) (state_of c ws) lent

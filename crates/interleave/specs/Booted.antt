@@ -1,5 +1,5 @@
 -- A world that begins on kept words, as a crash left them: its recovery comes first.
-use Rattle.std.specs.Prelude.{ℕ, List, [], Some, None, replicate}
+use Rattle.std.specs.Prelude.{◌≡◌, ℕ, List, [], Some, None, replicate}
 use Rattle.words.specs.declared.call.Kind.{Kind}
 use Rattle.words.specs.declared.call.Kind.TheVariants.{Durable as durable_kind, Log as log_kind}
 use Rattle.words.specs.declared.told.Told.{Told}
@@ -12,6 +12,8 @@ use Rattle.arena.specs.Shape.{Shape}
 use Rattle.sound_words.specs.Sound.{AreSoundWords, IsDamaged}
 use Rattle.recover.specs.Table.{boot_recovery}
 use Rattle.sound_words.specs.Told.{tells_by}
+use Rattle.interleave.specs.Core.{CoreState, state_of}
+use Rattle.interleave.specs.Holds.{Holds}
 use Rattle.interleave.specs.Values.{value_of_place}
 use Rattle.interleave.specs.State.{State}
 use Rattle.interleave.specs.declared.queue.Queue.{Queue}
@@ -39,3 +41,10 @@ booted_world s ws = record {
 abbrev pub MayRefuse : Shape → List ℕ → Refusal → Type 0
 MayRefuse s ws NoMemory = AreSoundWords s ws
 MayRefuse s ws refusal = IsDamaged s ws refusal
+
+-- a core that begins on these kept words, whatever was cached; and what holds of every world holds of it there
+abbrev pub IsBootedOn : Shape → List ℕ → CoreState → Type 0
+IsBootedOn s kept c = (ws : Words) → ws.kept ≡ kept → state_of c (words_after_crash ws) ≡ booted_world s ws
+
+abbrev pub HoldsOn : List ℕ → CoreState → Type 0
+HoldsOn kept c = (ws : Words) → ws.kept ≡ kept → Holds (state_of c (words_after_crash ws))

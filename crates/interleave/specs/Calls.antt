@@ -1,5 +1,5 @@
 -- Calls under way.
-use Rattle.std.specs.Prelude.{Bool, true, false, List, Option, Some, None, Result, Ok, Err, IfSome, slice_index_or}
+use Rattle.std.specs.Prelude.{◌≡◌, Bool, true, false, List, Option, Some, None, Result, Ok, Err, IfSome, slice_get, slice_index_or, slice_set}
 use Rattle.words.specs.declared.call.Client.{Client}
 use Rattle.words.specs.declared.call.Reply.{Reply}
 use Rattle.words.specs.declared.refusal.Refusal.{Refusal}
@@ -8,6 +8,7 @@ use Rattle.stepper.specs.declared.resume.After.{After}
 use Rattle.stepper.specs.declared.resume.After.TheVariants.{More, Done}
 use Rattle.helping.specs.Looks.{found_no_node}
 use Rattle.helping.specs.declared.op.Op.{Op}
+use Rattle.protocol.specs.Machine.{with_next}
 use Rattle.protocol.specs.declared.UnderWay.{UnderWay}
 
 -- what a step answers
@@ -32,6 +33,11 @@ waiting_result false (Some (Some u)) = Ok u
 -- what is so of the call that a client has under way
 abbrev pub OfCall : List (Option UnderWay) → Client → (UnderWay → Type 0) → Type 0
 OfCall calls client P = IfSome (slice_index_or calls client.0 None) P
+
+-- the client's call, if it has one, has come to what follows its step
+abbrev pub GoesOnTo : Client → After Op Reply → List (Option UnderWay) → List (Option UnderWay) → Type 0
+GoesOnTo client after old new =
+    (u : UnderWay) → slice_get old client.0 ≡ Some (Some u) → new ≡ slice_set old client.0 (with_next u after)
 
 -- whether memory was refused
 abbrev pub is_no_memory : {X : Type 0} → Result X Refusal → Bool

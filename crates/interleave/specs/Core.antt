@@ -1,11 +1,17 @@
 -- A world without its words: its acts are lent them.
-use Rattle.std.specs.Prelude.{ℕ, List, Option}
-use Rattle.persist.specs.Memory.{Words}
-use Rattle.arena.specs.Shape.{Shape}
+use Rattle.std.specs.Prelude.{◌≡◌, ℕ, List, length, Option, None, Result, Ok, is_some, slice_get, slice_index_or}
+use Rattle.words.specs.declared.call.Call.{Call}
+use Rattle.words.specs.declared.call.Client.{Client}
+use Rattle.words.specs.declared.refusal.Refusal.{Refusal}
+use Rattle.persist.specs.Memory.{Words, words_after_crash}
+use Rattle.arena.specs.Shape.{Shape, owner}
+use Rattle.stepper.specs.declared.prepare.Begun.{Begun}
+use Rattle.helping.specs.Table.{begun_at}
 use Rattle.events.specs.declared.event.Effect.{Effect}
 use Rattle.protocol.specs.Machine.{World}
 use Rattle.protocol.specs.declared.UnderWay.{UnderWay}
-use Rattle.interleave.specs.State.{State}
+use Rattle.interleave.specs.Calls.{is_no_memory, waiting_result}
+use Rattle.interleave.specs.State.{State, after_stop, start_with}
 use Rattle.interleave.specs.Trace.{Roomy, Traced, machine_with, state_with, with_effects}
 use Rattle.interleave.specs.declared.queue.Queue.{Queue}
 
@@ -35,3 +41,23 @@ core_with_effects c effects = record c { trace = with_effects c.trace effects }
 -- other room, and all else as before
 abbrev pub core_with_room : CoreState → ℕ → CoreState
 core_with_room c room = record c { trace = record c.trace { room = room } }
+
+-- the call that the client has under way, or why it cannot go on
+abbrev pub waiting_of : CoreState → Client → Result UnderWay Refusal
+waiting_of c client = waiting_result (is_some c.trace.recovery) (slice_get c.calls client.0)
+
+-- the call whose record has this number, if it is under way
+abbrev pub call_with_record : CoreState → ℕ → Option UnderWay
+call_with_record c number = slice_index_or c.calls (owner c.shape number) None
+
+-- the call that begins now, with this record
+abbrev pub call_begun_by : CoreState → Begun → UnderWay
+call_begun_by c begun = record { place = length c.trace.log.events; begun = begun; op = begun_at c.shape.kind begun }
+
+-- what a start of this number leaves, of a client that may begin a call
+abbrev pub left_by_start : Result Unit Refusal → CoreState → Words → Client → ℕ → Call → State
+left_by_start result c ws client number call = start_with (is_no_memory result) (state_of c ws) client call (Ok number)
+
+-- the whole system stopped, whatever was cached
+abbrev pub IsStopped : CoreState → CoreState → Type 0
+IsStopped old new = (ws : Words) → state_of new (words_after_crash ws) ≡ after_stop (state_of old ws)

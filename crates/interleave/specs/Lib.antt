@@ -1,7 +1,9 @@
 pub mod Content
 pub mod Core
+pub mod Stepped
 pub mod Queue
 pub mod Calls
+pub mod Points
 pub mod Values
 pub mod Verdicts
 pub mod Effects

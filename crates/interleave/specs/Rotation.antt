@@ -6,8 +6,10 @@ use Rattle.words.specs.declared.call.Client.{Client}
 use Rattle.words.specs.declared.refusal.Refusal.{Refusal}
 use Rattle.words.specs.declared.refusal.Refusal.TheVariants.{NotReady, Busy, NoMemory}
 use Rattle.words.specs.declared.told.Told.{Told}
+use Rattle.persist.specs.Memory.{Words}
 use Rattle.protocol.specs.Rotated.{empty_trace}
 use Rattle.protocol.specs.declared.UnderWay.{UnderWay}
+use Rattle.interleave.specs.Core.{CoreState, state_of}
 use Rattle.interleave.specs.Numbers.{IsEntryOf, told_floor}
 use Rattle.interleave.specs.Queue.{told_in}
 use Rattle.interleave.specs.State.{State, is_down, kept_content, kept_tells, order_in, AreToldOfAnnounced}
@@ -47,6 +49,13 @@ rotate_result full w =
 -- what an attempt at a rotation leaves, where memory is refused to it (`full`) or not
 abbrev pub after_rotate : Bool → State → State
 after_rotate full w = if is_ok (rotate_result full w) then after_rotation w else w
+
+-- the same of a core, with these kept words and whatever is cached: its history ended, and another begins
+abbrev pub BeginsAnew : List ℕ → CoreState → CoreState → Type 0
+BeginsAnew kept old new = (ws : Words) → ws.kept ≡ kept → state_of new ws ≡ after_rotation (state_of old ws)
+
+abbrev pub IsLeftByRotate : Bool → List ℕ → CoreState → CoreState → Type 0
+IsLeftByRotate full kept old new = (ws : Words) → ws.kept ≡ kept → state_of new ws ≡ after_rotate full (state_of old ws)
 
 -- what the kept words tell each client, and so the next history's base, is right of its announced call in this one
 abbrev pub IsBaseToldRightly : State → Type 0

@@ -6,9 +6,11 @@ use Rattle.words.specs.declared.call.Reply.{Reply}
 use Rattle.words.specs.declared.limits.TheConstants.{MAX_STEPS_ALONE}
 use Rattle.words.specs.declared.refusal.Refusal.{Refusal}
 use Rattle.words.specs.declared.refusal.Refusal.TheVariants.{NoMemory}
+use Rattle.persist.specs.Memory.{Words}
 use Rattle.persist.specs.declared.access.Change.{Change}
 use Rattle.protocol.specs.declared.UnderWay.{UnderWay}
 use Rattle.interleave.specs.Calls.{is_no_memory, waiting_result}
+use Rattle.interleave.specs.Core.{CoreState, roomy_over}
 use Rattle.interleave.specs.Holds.{IsExplained}
 use Rattle.interleave.specs.Standing.{GoesOn}
 use Rattle.interleave.specs.State.{State, after_start, start_result, after_step, step_result, after_evict, evict_result, after_crash, crash_result, after_recover, recover_result, after_alone, is_down, IsAnsweredAlone, IsKeptSound}
@@ -65,6 +67,13 @@ pub record IsByAlone (client : Client) (old : Roomy) (result : Result (Reply × 
   pub world : IfOk result (λ answer. new.now ≡ after_alone answer.1 old.now client)
   pub room : old.room ≤ new.room + 1
   pub spare : IfErr result (λ e. old.room ≤ new.room)
+
+-- the same of a core: over the first words it was as before, and over the last it is as now
+abbrev pub IsByRuleOver : {A : Type 0} → Rule A → CoreState → Words → Result A Refusal → CoreState → Words → Type 0
+IsByRuleOver rule old ws result new left = IsByRule rule (roomy_over old ws) result (roomy_over new left)
+
+abbrev pub IsByAloneOver : Client → CoreState → Words → Result (Reply × ℕ) Refusal → CoreState → Words → Type 0
+IsByAloneOver client old ws result new left = IsByAlone client (roomy_over old ws) result (roomy_over new left)
 
 -- the client's call is answered within so many steps, where it goes on alone
 pub record IsAnsweredWithin (most : ℕ) (w : State) (client : Client) : Type 0 where

@@ -25,6 +25,15 @@ pub data Went (room : ℕ) (old : State) : List (Act ℕ) → ℕ → State → 
       (accepted : Bool) (attempt : IsAttempt (room - taken) w act accepted v)
       → Went room old (acts ++ act ∷ []) (taken + count_of accepted) v
 
+-- acts that were attempted one after another, and how that went
+pub record Attempted : Type 0 where
+  pub room : ℕ
+  pub old : State
+  pub acts : List (Act ℕ)
+  pub taken : ℕ
+  pub new : State
+  pub went : Went room old acts taken new
+
 -- recovery was under way before the first act, and after each
 abbrev pub StaysDown : {room : ℕ} {old : State} {acts : List (Act ℕ)} {taken : ℕ} {new : State}
     → Went room old acts taken new → Type 0
@@ -83,3 +92,8 @@ pub record TellsNext (old : State) (tells : List Told) : Type 0 where
   pub down : StaysDown went
   pub ready : recover_result false last ≡ Ok true
   pub tells_is : told_in (after_recover false last).queue ≡ tells
+
+-- two worlds of one layout keep the same words
+pub record KeepTheSame (w v : State) : Type 0 where
+  pub shape : w.shape ≡ v.shape
+  pub kept : w.words.kept ≡ v.words.kept

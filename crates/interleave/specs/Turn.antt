@@ -27,3 +27,7 @@ pub record IsServedAlone (old : State) (call : Call) (reply : Reply) (new : Stat
   pub answer : reply ≡ reply_of (kept_content old) call
   pub content : kept_content new ≡ served (kept_content old) call
   pub nobody : NobodyCalls new
+
+-- so it was with the client's call, if it was in turn
+abbrev pub IsServedInTurn : Client → State → Reply → State → Type 0
+IsServedInTurn client old reply new = (call : Call) → IsInTurn old client call → IsServedAlone old call reply new

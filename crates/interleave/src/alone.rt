@@ -1,10 +1,10 @@
 //! A call that goes on alone.
 
 ghost use Rattle.std.specs.Prelude.{◌≡◌, ◌≤◌, ◌+◌, ◌⊎◌, is_some, slice_get, slice_index_or, true, Err, None, IfOk, IfErr};
-ghost use Rattle.interleave.specs.Asked.{lent_after_alone, IfCallAsked};
-ghost use Rattle.interleave.specs.Core.{roomy_over, state_of};
+ghost use Rattle.interleave.specs.Asked.{lent_once_answered, IfCallAsked};
+ghost use Rattle.interleave.specs.Core.{state_of};
 ghost use Rattle.interleave.specs.Holds.{Holds};
-ghost use Rattle.interleave.specs.Rules.{IsByAlone};
+ghost use Rattle.interleave.specs.Rules.{IsByAloneOver};
 
 use crate::lent::Core;
 use persist::EvictableWords;
@@ -23,11 +23,10 @@ impl Core {
         requires holds { Holds (state_of self.old (M.words memory.old)) }
         requires asked { IfCallAsked self.old.shape (slice_index_or self.old.calls client.0 None)
             (M.lent memory.old).request }
-        ensures alone { IsByAlone client (roomy_over self.old (M.words memory.old)) result
-            (roomy_over self.new (M.words memory.new)) }
+        ensures alone { IsByAloneOver client self.old (M.words memory.old) result self.new (M.words memory.new) }
         ensures holds { Holds (state_of self.new (M.words memory.new)) }
         ensures lent { IfOk result (λ answer. M.lent memory.new
-            ≡ lent_after_alone answer.1 (state_of self.old (M.words memory.old)) client (M.lent memory.old)) }
+            ≡ lent_once_answered answer.1 client self.old (M.words memory.old) (M.lent memory.old)) }
         ensures left { IfErr result (λ e. M.lent memory.new ≡ M.lent memory.old) }
     {
         self.waiting(client)?;

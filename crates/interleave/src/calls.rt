@@ -2,9 +2,9 @@
 
 ghost use Rattle.std.specs.Prelude.{◌≡◌, ◌<◌, ◌≤◌, ◌+◌, ◌*◌, replicate, length, slice_get, slice_index_or, slice_set, IfErr, IfOk, Err, None, Ok, Some};
 ghost use Rattle.std.specs.Option.{option_copied};
-ghost use Rattle.interleave.specs.Calls.{idle_result, waiting_result};
+ghost use Rattle.stepper.specs.declared.resume.After.TheVariants.{More};
+ghost use Rattle.interleave.specs.Calls.{idle_result, waiting_result, GoesOnTo};
 ghost use Rattle.interleave.specs.Rotation.{some_client_calls};
-ghost use Rattle.protocol.specs.declared.UnderWay.{UnderWay as AnyUnderWay};
 
 use helping::Op;
 use protocol::UnderWay;
@@ -41,8 +41,7 @@ fn clear(places: &mut [Option<UnderWay>])
 /// The client's call goes on to this point, where it stands.
 fn go_on(places: &mut [Option<UnderWay>], client: Client, op: &Op)
     requires { client.0 < length places.old }
-    ensures { (u : AnyUnderWay) → slice_get places.old client.0 ≡ Some (Some u)
-        → places.new ≡ slice_set places.old client.0 (Some (record u { op = op.now })) }
+    ensures { GoesOnTo client (More op.now) places.old places.new }
 {
     if let Some(under_way) = &mut places[client.0 as usize] {
         under_way.op = *op;
@@ -98,8 +97,7 @@ impl Calls {
     /// The call of a client that has one goes on to this point. It is written in place.
     pub(crate) fn go_on(&mut self, client: Client, op: &Op)
         requires { client.0 < length self.old }
-        ensures { (u : AnyUnderWay) → slice_get self.old client.0 ≡ Some (Some u)
-            → self.new ≡ slice_set self.old client.0 (Some (record u { op = op.now })) }
+        ensures { GoesOnTo client (More op.now) self.old self.new }
     {
         go_on(&mut self.places, client, op);
     }

@@ -2,10 +2,8 @@
 
 ghost use Rattle.std.specs.Prelude.{◌≡◌, ◌++◌, IfOk, IfErr, OnOk};
 ghost use Rattle.arena.specs.Place.{IsNode};
-ghost use Rattle.arena.specs.Content.{kept_content};
-ghost use Rattle.interleave.specs.Content.{unclaimed_from};
+ghost use Rattle.interleave.specs.Content.{content_by, unclaimed_by};
 ghost use Rattle.interleave.specs.Ranges.{KeptFit};
-ghost use Rattle.interleave.specs.Values.{value_of_place};
 
 use crate::notice::{kept_at, kept_value};
 use arena::{Layout, Place};
@@ -23,7 +21,7 @@ fn add_unclaimed<K: KeptWords>(
     requires node { IsNode layout.now node.0 }
     requires fit { KeptFit layout.now (K.kept_words kept.now) }
     ensures added { OnOk result (values.new.items
-        ≡ values.old.items ++ unclaimed_from (value_of_place layout.now (K.kept_words kept.now)) node.0) }
+        ≡ values.old.items ++ unclaimed_by layout.now (K.kept_words kept.now) node.0) }
     ensures errors { IfErr result (λ e. e ≡ Refusal.NoMemory) }
 {
     if kept_at(layout, kept, Place::Mark(node)) != 0 {
@@ -43,8 +41,7 @@ pub(crate) fn content<K: KeptWords>(
     kept: &K,
 ) -> Result<Vec<Value>, Refusal>
     requires { KeptFit layout.now (K.kept_words kept.now) }
-    ensures content { IfOk result (λ values. values.items
-        ≡ kept_content layout.now (value_of_place layout.now (K.kept_words kept.now))) }
+    ensures content { IfOk result (λ values. values.items ≡ content_by layout.now (K.kept_words kept.now)) }
     ensures errors { IfErr result (λ e. e ≡ Refusal.NoMemory) }
 {
     let mut values = Vec::new(alloc);

@@ -1,21 +1,18 @@
 //! A crash of the whole system, and the steps of recovery.
 
-ghost use Rattle.std.specs.Prelude.{◌≡◌, ◌<◌, ◌≤◌, ◌+◌, ◌++◌, ◌∷◌, [], true, false, is_some, length, IfSome, Some, None, Ok, IfErr};
+ghost use Rattle.std.specs.Prelude.{◌≡◌, ◌<◌, ◌≤◌, ◌+◌, true, false, is_some, length, IfSome, None, Ok, IfErr};
 ghost use Rattle.persist.specs.Memory.{Words, words_after_crash};
 ghost use Rattle.persist.specs.Noted.{answer_in, change_in, IsNoted};
-ghost use Rattle.events.specs.declared.event.Event.TheVariants.{Ready as ready_event};
-ghost use Rattle.stepper.specs.Step.{after_one, change_by, lent_after_one, value_found};
-ghost use Rattle.recover.specs.Table.{access_of, recovery_after};
-ghost use Rattle.recover.specs.declared.recovery.Recovery.{Recovery as AnyRecovery};
-ghost use Rattle.protocol.specs.Machine.{recovery_left, recovery_events};
-ghost use Rattle.interleave.specs.Asked.{lent_after_recover, IfRecoveryAsked};
+ghost use Rattle.interleave.specs.Asked.{lent_once_recovered, IfRecoveryAsked};
 ghost use Rattle.interleave.specs.Calls.{is_no_memory};
-ghost use Rattle.interleave.specs.Core.{core_with_room, roomy_over, state_of};
+ghost use Rattle.interleave.specs.Core.{core_with_room, state_of, IsStopped};
 ghost use Rattle.interleave.specs.Holds.{Holds};
+ghost use Rattle.interleave.specs.Points.{lent_by_recovery};
 ghost use Rattle.interleave.specs.Queue.{queue_with_reports};
-ghost use Rattle.interleave.specs.Recoveries.{MayRecover};
-ghost use Rattle.interleave.specs.Rules.{recovering, IsByRule};
-ghost use Rattle.interleave.specs.State.{after_stop, crash_result, queue_at_ready, is_ready};
+ghost use Rattle.interleave.specs.Recoveries.{IsRecoveryStep, MayRecover, OfRecovery};
+ghost use Rattle.interleave.specs.Rules.{recovering, IsByRuleOver};
+ghost use Rattle.interleave.specs.State.{crash_result};
+ghost use Rattle.interleave.specs.Trace.{AddsReady};
 
 use crate::lent::Core;
 use persist::{Noted, WordMemory};
@@ -26,7 +23,7 @@ impl Core {
     /// has several cores makes room in each ([`Core::reserve`]) before any of them stops.
     pub fn stop(&mut self)
         requires { 0 < self.old.trace.room }
-        ensures stopped { (ws : Words) → state_of self.new (words_after_crash ws) ≡ after_stop (state_of self.old ws) }
+        ensures stopped { IsStopped self.old self.new }
         ensures room { self.old.trace.room ≤ self.new.trace.room + 1 }
         ensures holds { (ws : Words) → Holds (state_of self.old ws)
             → Holds (state_of self.new (words_after_crash ws)) }
@@ -40,8 +37,7 @@ impl Core {
     /// kept one. It is refused for want of memory alone (NoMemory), and then nothing changed.
     pub fn crash(&mut self) -> Result<(), Refusal>
         requires { length self.old.trace.log.effects ≤ length self.old.trace.log.events }
-        ensures stopped { result ≡ Ok tt
-            → (ws : Words) → state_of self.new (words_after_crash ws) ≡ after_stop (state_of self.old ws) }
+        ensures stopped { result ≡ Ok tt → IsStopped self.old self.new }
         ensures same { IfErr result (λ e. self.new ≡ core_with_room self.old self.new.trace.room) }
         ensures result { result ≡ crash_result (is_no_memory result) }
         ensures full { is_no_memory result ≡ true → self.old.trace.room ≡ 0 }
@@ -64,11 +60,9 @@ impl Core {
         ensures told { self.new.trace.told ≡ self.old.trace.told }
         ensures issued { self.new.trace.log.issued ≡ self.old.trace.log.issued }
         ensures effects { self.new.trace.log.effects ≡ self.old.trace.log.effects }
-        ensures events { (r : AnyRecovery) → self.old.trace.recovery ≡ Some r
-            → self.new.trace.log.events ≡ self.old.trace.log.events ++ ready_event r.told ∷ [] }
+        ensures events { AddsReady self.old.trace self.new.trace }
         ensures recovery { self.new.trace.recovery ≡ None }
-        ensures queue { (r : AnyRecovery) → self.old.trace.recovery ≡ Some r
-            → self.new.queue ≡ queue_with_reports self.old.queue r.told }
+        ensures queue { OfRecovery self.old.trace.recovery (λ r. self.new.queue ≡ queue_with_reports self.old.queue r.told) }
         ensures room { self.old.trace.room ≤ self.new.trace.room + 1 }
     {
         let told = self.trace.end_recovery();
@@ -88,16 +82,9 @@ impl Core {
         ensures told { self.new.trace.told ≡ self.old.trace.told }
         ensures issued { self.new.trace.log.issued ≡ self.old.trace.log.issued }
         ensures effects { self.new.trace.log.effects ≡ self.old.trace.log.effects }
-        ensures step { (r : AnyRecovery) → self.old.trace.recovery ≡ Some r →
-            let s = self.old.shape in let access = access_of s.kind r.at in
-            let next = recovery_after s r (value_found s access (M.words memory.old)) in
-            (M.words memory.new ≡ after_one s access (M.words memory.old))
-            × (self.new.trace.recovery ≡ recovery_left next)
-            × (self.new.trace.log.events ≡ recovery_events self.old.trace.log.events next)
-            × (self.new.queue ≡ queue_at_ready self.old.queue next) × (result.answer ≡ is_ready next)
-            × (M.lent memory.new ≡ lent_after_one s access (M.lent memory.old)) }
-        ensures change { (r : AnyRecovery) → self.old.trace.recovery ≡ Some r → let s = self.old.shape in
-            result.change ≡ change_by s (access_of s.kind r.at) (M.words memory.old) }
+        ensures step { IsRecoveryStep self.old (M.words memory.old) self.new (M.words memory.new) result }
+        ensures lent { OfRecovery self.old.trace.recovery (λ r.
+            M.lent memory.new ≡ lent_by_recovery self.old.shape r (M.lent memory.old)) }
         ensures room { self.old.trace.room ≤ self.new.trace.room + 1 }
         ensures stays { result.answer ≡ false → self.old.trace.room ≤ self.new.trace.room }
     {
@@ -115,12 +102,12 @@ impl Core {
     ) -> Result<Noted<bool>, Refusal>
         requires holds { Holds (state_of self.old (M.words memory.old)) }
         requires asked { IfRecoveryAsked self.old.shape self.old.trace.recovery (M.lent memory.old).request }
-        ensures by_rule { IsByRule recovering (roomy_over self.old (M.words memory.old)) (answer_in result)
-            (roomy_over self.new (M.words memory.new)) }
+        ensures by_rule { IsByRuleOver recovering self.old (M.words memory.old) (answer_in result)
+            self.new (M.words memory.new) }
         ensures stays { answer_in result ≡ Ok false → self.old.trace.room ≤ self.new.trace.room }
         ensures holds { Holds (state_of self.new (M.words memory.new)) }
-        ensures lent { M.lent memory.new ≡ lent_after_recover (is_no_memory (answer_in result))
-            (state_of self.old (M.words memory.old)) (M.lent memory.old) }
+        ensures lent { M.lent memory.new
+            ≡ lent_once_recovered (answer_in result) self.old (M.words memory.old) (M.lent memory.old) }
         ensures noted { IsNoted (change_in result) (M.words memory.old).kept (M.words memory.new).kept }
     {
         if !self.is_down() {
@@ -137,12 +124,10 @@ impl Core {
     pub fn recover_step<M: WordMemory>(&mut self, memory: &mut M) -> Result<bool, Refusal>
         requires holds { Holds (state_of self.old (M.words memory.old)) }
         requires asked { IfRecoveryAsked self.old.shape self.old.trace.recovery (M.lent memory.old).request }
-        ensures by_rule { IsByRule recovering (roomy_over self.old (M.words memory.old)) result
-            (roomy_over self.new (M.words memory.new)) }
+        ensures by_rule { IsByRuleOver recovering self.old (M.words memory.old) result self.new (M.words memory.new) }
         ensures stays { result ≡ Ok false → self.old.trace.room ≤ self.new.trace.room }
         ensures holds { Holds (state_of self.new (M.words memory.new)) }
-        ensures lent { M.lent memory.new ≡ lent_after_recover (is_no_memory result)
-            (state_of self.old (M.words memory.old)) (M.lent memory.old) }
+        ensures lent { M.lent memory.new ≡ lent_once_recovered result self.old (M.words memory.old) (M.lent memory.old) }
     {
         Ok(self.recover_step_noted(memory)?.answer)
     }

@@ -1,9 +1,9 @@
 //! An eviction.
 
 ghost use Rattle.std.specs.Prelude.{◌≡◌, ◌≤◌, ◌<◌, length};
-ghost use Rattle.interleave.specs.Core.{roomy_over, state_of};
+ghost use Rattle.interleave.specs.Core.{state_of};
 ghost use Rattle.interleave.specs.Holds.{Holds};
-ghost use Rattle.interleave.specs.Rules.{evicting, IsByRule};
+ghost use Rattle.interleave.specs.Rules.{evicting, IsByRuleOver};
 
 use crate::lent::Core;
 use persist::{Change, EvictableWords};
@@ -18,8 +18,8 @@ impl Core {
         word: usize,
     ) -> Result<Option<Change>, Refusal>
         requires holds { Holds (state_of self.old (M.words memory.old)) }
-        ensures by_rule { IsByRule (evicting word) (roomy_over self.old (M.words memory.old)) result
-            (roomy_over self.new (M.words memory.new)) }
+        ensures by_rule { IsByRuleOver (evicting word) self.old (M.words memory.old) result
+            self.new (M.words memory.new) }
         ensures room { self.new.trace.room ≡ self.old.trace.room }
         ensures holds { Holds (state_of self.new (M.words memory.new)) }
         ensures lent { M.lent memory.new ≡ M.lent memory.old }

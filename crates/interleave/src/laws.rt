@@ -1,27 +1,26 @@
 //! What holds of every act on a world.
 
 ghost use Rattle.std.specs.Prelude.{ℕ, Bool, List, length, slice_get, Ok, Some, ◌≡◌, ◌≢◌, ◌≤◌, ◌+◌, ◌++◌};
-ghost use Rattle.words.specs.declared.call.Call.{Call};
 ghost use Rattle.words.specs.declared.call.Client.{Client};
 ghost use Rattle.words.specs.declared.call.Reply.{Reply};
 ghost use Rattle.words.specs.declared.limits.TheConstants.{MAX_STEPS_ALONE};
 ghost use Rattle.words.specs.declared.told.Told.{Told};
 ghost use Rattle.arena.specs.Shape.{Shape};
-ghost use Rattle.stepper.specs.Step.{IsReadInRange};
-ghost use Rattle.helping.specs.Table.{IsPoint, access_of, successor};
+ghost use Rattle.helping.specs.Table.{IsPoint, successor};
 ghost use Rattle.helping.specs.declared.op.Op.{Op};
 ghost use Rattle.recover.specs.declared.recovery.Recovery.{Recovery};
 ghost use Rattle.protocol.specs.declared.UnderWay.{UnderWay};
+ghost use Rattle.interleave.specs.Points.{FindsInRange};
 ghost use Rattle.interleave.specs.Premises.{IsMoreInRange, MayGoOn};
 ghost use Rattle.interleave.specs.Recoveries.{MayRecover};
 ghost use Rattle.interleave.specs.Holds.{Holds};
 ghost use Rattle.interleave.specs.Rotation.{AreNumbersTold, IsBaseToldRightly, IsQuiet, ShareNoNumber};
 ghost use Rattle.interleave.specs.Rules.{waiting_in, IsAnsweredWithin};
-ghost use Rattle.interleave.specs.Turn.{IsInTurn, IsServedAlone};
+ghost use Rattle.interleave.specs.Turn.{IsServedInTurn};
 ghost use Rattle.words.specs.declared.call.Kind.{Kind};
 ghost use Rattle.interleave.specs.Standing.{IsBeginningOf};
 ghost use Rattle.protocol.specs.Acts.{recoveries};
-ghost use Rattle.interleave.specs.Runs.{Went, recovery_steps, TellsNext};
+ghost use Rattle.interleave.specs.Runs.{Attempted, KeepTheSame, recovery_steps, TellsNext};
 ghost use Rattle.interleave.specs.State.{State, after_alone, after_attempt, after_act, after_acts, taken_of, kept_tells, IsAnsweredAlone};
 ghost use Rattle.interleave.specs.OneAccess.{MakesOneAccess};
 ghost use Rattle.interleave.specs.OneEvent.{event_of};
@@ -44,18 +43,14 @@ pub fn one_event_an_act()
 pub fn histories_go_on()
     ensures acts { (full : Bool) (w : State) (act : Act ℕ)
         → IsBeginningOf w.log.events (after_attempt full w act).log.events }
-    ensures lists { (room taken : ℕ) (old new : State) (acts : List (Act ℕ))
-        → Went room old acts taken new → IsBeginningOf old.log.events new.log.events }
+    ensures lists { (run : Attempted) → IsBeginningOf run.old.log.events run.new.log.events }
 {}
 
 /// Where there is room for all of a list of acts, none is refused for want of memory.
 pub fn acts_with_room_are_made()
-    ensures leaves { (room taken : ℕ) (old new : State) (acts : List (Act ℕ))
-        → Went room old acts taken new → length acts ≤ room → new ≡ after_acts old acts }
-    ensures counts { (room taken : ℕ) (old new : State) (acts : List (Act ℕ))
-        → Went room old acts taken new → length acts ≤ room → taken ≡ taken_of old acts }
-    ensures steps { (room taken : ℕ) (old new : State) (acts : List (Act ℕ))
-        → (went : Went room old acts taken new) → length acts ≤ room → recovery_steps went ≡ recoveries acts }
+    ensures leaves { (run : Attempted) → length run.acts ≤ run.room → run.new ≡ after_acts run.old run.acts }
+    ensures counts { (run : Attempted) → length run.acts ≤ run.room → run.taken ≡ taken_of run.old run.acts }
+    ensures steps { (run : Attempted) → length run.acts ≤ run.room → recovery_steps run.went ≡ recoveries run.acts }
 {}
 
 /// What a world in which recovery is under way, as after a crash or where it was booted, tells at its next Ready is
@@ -63,8 +58,7 @@ pub fn acts_with_room_are_made()
 /// kept words are equal tell the same.
 pub fn kept_words_tell()
     ensures by_words { (w : State) (tells : List Told) → Holds w → TellsNext w tells → tells ≡ kept_tells w }
-    ensures same { (w v : State) (tells telling : List Told)
-        → Holds w → Holds v → w.shape ≡ v.shape → w.words.kept ≡ v.words.kept
+    ensures same { (w v : State) (tells telling : List Told) → Holds w → Holds v → KeepTheSame w v
         → TellsNext w tells → TellsNext v telling → tells ≡ telling }
 {}
 
@@ -73,9 +67,8 @@ pub fn kept_words_tell()
 pub fn calls_alone_are_served()
     ensures answered { (w : State) (client : Client) (call : UnderWay) → Holds w → waiting_in w client ≡ Ok call
         → IsAnsweredWithin MAX_STEPS_ALONE w client }
-    ensures served { (w : State) (client : Client) (call : Call) (steps : ℕ) (reply : Reply)
-        → Holds w → IsInTurn w client call → IsAnsweredAlone w client steps reply
-        → IsServedAlone w call reply (after_alone steps w client) }
+    ensures served { (w : State) (client : Client) (steps : ℕ) (reply : Reply) → Holds w
+        → IsAnsweredAlone w client steps reply → IsServedInTurn client w reply (after_alone steps w client) }
 {}
 
 /// Where a world is at rest, as before a rotation, what its kept words tell each client is right of its announced call,
@@ -88,7 +81,7 @@ pub fn kept_words_tell_rightly()
 /// A step leads into the range that the next one asks for, and so at every moment each call under way and the recovery
 /// wait at points in range, and what they are about to read is in range.
 pub fn steps_stay_in_range()
-    ensures successors { (s : Shape) (op : Op) (found : ℕ) → IsPoint s op → IsReadInRange s (access_of s.kind op) found
+    ensures successors { (s : Shape) (op : Op) (found : ℕ) → IsPoint s op → FindsInRange s op found
         → IsMoreInRange s (successor s.kind op found) }
     ensures calls { (w : State) (client : Client) (call : UnderWay) → Holds w
         → slice_get w.calls client.0 ≡ Some (Some call) → MayGoOn w call }

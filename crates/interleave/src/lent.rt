@@ -1,18 +1,17 @@
 //! A world whose memory is lent to each of its acts.
 
 ghost use Rattle.std.specs.Prelude.{◌≡◌, ◌≤◌, ◌<◌, length, is_some, slice_index_or, IfOk, IfErr, OnOk, OnErr, Some, None};
-ghost use Rattle.persist.specs.Memory.{Words, words_after_crash};
+ghost use Rattle.persist.specs.Memory.{Words};
 ghost use Rattle.sound_words.specs.Sound.{AreSoundWords};
 ghost use Rattle.recover.specs.Table.{boot_recovery};
-ghost use Rattle.interleave.specs.Booted.{booted_world, MayRefuse};
+ghost use Rattle.interleave.specs.Booted.{booted_world, HoldsOn, IsBootedOn, MayRefuse};
+ghost use Rattle.interleave.specs.Content.{content_by};
 ghost use Rattle.interleave.specs.Core.{core_with_room, state_of};
 ghost use Rattle.interleave.specs.Queue.{told_in, told_to};
 ghost use Rattle.interleave.specs.Holds.{Holds};
 ghost use Rattle.interleave.specs.Ranges.{AreUnused, KeptFit};
 ghost use Rattle.interleave.specs.State.{world_over};
-ghost use Rattle.interleave.specs.Values.{value_of_place};
 ghost use Rattle.interleave.specs.Verdicts.{number_of_call};
-ghost use Rattle.arena.specs.Content.{kept_content as content_of};
 ghost use Rattle.events.specs.Effects.{order_of};
 
 use crate::calls::Calls;
@@ -68,10 +67,8 @@ impl Core {
     /// hold and tell. The caller makes every cached value the kept one, as a crash does. It is refused, in this order,
     /// where the words break a rule (Damaged, with the first such rule), and for want of memory (NoMemory).
     pub fn boot<K: KeptWords>(alloc: Global, layout: Layout, kept: &K) -> Result<Self, Refusal>
-        ensures booted { IfOk result (λ c. (ws : Words) → ws.kept ≡ K.kept_words kept.now
-            → state_of c (words_after_crash ws) ≡ booted_world layout ws) }
-        ensures holds { IfOk result (λ c. (ws : Words) → ws.kept ≡ K.kept_words kept.now
-            → Holds (state_of c (words_after_crash ws))) }
+        ensures booted { IfOk result (λ c. IsBootedOn layout (K.kept_words kept.now) c) }
+        ensures holds { IfOk result (λ c. HoldsOn (K.kept_words kept.now) c) }
         ensures sound { IfOk result (λ c. AreSoundWords layout (K.kept_words kept.now)) }
         ensures errors { IfErr result (λ e. MayRefuse layout (K.kept_words kept.now) e) }
     {
@@ -87,10 +84,8 @@ impl Core {
         kept: &K,
     ) -> Result<Self, Refusal>
         requires { AreSoundWords layout (K.kept_words kept.now) }
-        ensures booted { IfOk result (λ c. (ws : Words) → ws.kept ≡ K.kept_words kept.now
-            → state_of c (words_after_crash ws) ≡ booted_world layout ws) }
-        ensures holds { IfOk result (λ c. (ws : Words) → ws.kept ≡ K.kept_words kept.now
-            → Holds (state_of c (words_after_crash ws))) }
+        ensures booted { IfOk result (λ c. IsBootedOn layout (K.kept_words kept.now) c) }
+        ensures holds { IfOk result (λ c. HoldsOn (K.kept_words kept.now) c) }
         ensures errors { IfErr result (λ e. e ≡ Refusal.NoMemory) }
     {
         let clients = layout.clients();
@@ -161,8 +156,7 @@ impl Core {
     /// sentinel, the claimed ones left out.
     pub fn content<K: KeptWords>(&self, kept: &K) -> Result<Vec<Value>, Refusal>
         requires { KeptFit self.now.shape (K.kept_words kept.now) }
-        ensures content { IfOk result (λ values. values.items
-            ≡ content_of self.now.shape (value_of_place self.now.shape (K.kept_words kept.now))) }
+        ensures content { IfOk result (λ values. values.items ≡ content_by self.now.shape (K.kept_words kept.now)) }
         ensures errors { IfErr result (λ e. e ≡ Refusal.NoMemory) }
     {
         content(self.trace.allocator(), &self.layout, kept)

@@ -1,16 +1,15 @@
 //! What takes effect when a kept word changes.
 
-ghost use Rattle.std.specs.Prelude.{◌≡◌, ◌≤◌, length, slice_index_or, None};
+ghost use Rattle.std.specs.Prelude.{◌≡◌, ◌≤◌, length};
 ghost use Rattle.std.specs.Option.{option_copied};
 ghost use Rattle.arena.specs.Layout.{size_of};
-ghost use Rattle.arena.specs.Shape.{owner};
 ghost use Rattle.arena.specs.Place.{IsNode, IsPlace};
 ghost use Rattle.arena.specs.Words.{values};
-ghost use Rattle.protocol.specs.Machine.{effects_on_keep, effects_on_count};
-ghost use Rattle.interleave.specs.Core.{machine_over, core_with_effects};
+ghost use Rattle.interleave.specs.Core.{call_with_record, core_with_effects};
 ghost use Rattle.interleave.specs.Effects.{AreInSequence};
-ghost use Rattle.interleave.specs.Changes.{effects_on_change};
+ghost use Rattle.interleave.specs.Changes.{effects_by_change, effects_by_count, effects_by_keep};
 ghost use Rattle.interleave.specs.Ranges.{WordsFit};
+ghost use Rattle.interleave.specs.Trace.{HaveRoom};
 ghost use Rattle.interleave.specs.Values.{value_of_place};
 
 use crate::lent::Core;
@@ -46,7 +45,7 @@ pub(crate) fn kept_value<K: KeptWords>(layout: &Layout, kept: &K, node: NodeId) 
 impl Core {
     /// The call whose record has this number, if it is under way.
     fn call_with(&self, number: u64) -> Option<&UnderWay>
-        ensures { option_copied result ≡ slice_index_or self.now.calls (owner self.now.shape number) None }
+        ensures { option_copied result ≡ call_with_record self.now number }
     {
         let owner = number.saturating_sub(1) / self.layout.records() as u64;
         self.calls.under_way(owner as usize)
@@ -55,8 +54,7 @@ impl Core {
     /// What the call with this record found counts.
     fn settle_call(&mut self, number: u64)
         requires sequence { AreInSequence self.old.trace.log.effects }
-        ensures { self.new ≡ core_with_effects self.old (effects_on_count
-            (slice_index_or self.old.calls (owner self.old.shape number) None) self.old.trace.log.effects) }
+        ensures { self.new ≡ core_with_effects self.old (effects_by_count self.old number) }
     {
         if let Some(under_way) = self.call_with(number) {
             let place = under_way.place;
@@ -70,10 +68,8 @@ impl Core {
         requires place { IsPlace self.old.shape place }
         requires fit { WordsFit self.old.shape (M.words memory.now) }
         requires sequence { AreInSequence self.old.trace.log.effects }
-        requires room { length (effects_on_keep (machine_over self.old (M.words memory.now)) place new)
-            ≤ length self.old.trace.log.events }
-        ensures { self.new ≡ core_with_effects self.old
-            (effects_on_keep (machine_over self.old (M.words memory.now)) place new) }
+        requires room { HaveRoom self.old.trace.log (effects_by_keep self.old (M.words memory.now) place new) }
+        ensures { self.new ≡ core_with_effects self.old (effects_by_keep self.old (M.words memory.now) place new) }
     {
         match place {
             Place::Next(_) => {
@@ -107,10 +103,8 @@ impl Core {
     pub(crate) fn note_change<M: EvictableWords>(&mut self, memory: &M, change: Option<Change>)
         requires fit { WordsFit self.old.shape (M.words memory.now) }
         requires sequence { AreInSequence self.old.trace.log.effects }
-        requires room { length (effects_on_change (machine_over self.old (M.words memory.now)) change)
-            ≤ length self.old.trace.log.events }
-        ensures { self.new ≡ core_with_effects self.old
-            (effects_on_change (machine_over self.old (M.words memory.now)) change) }
+        requires room { HaveRoom self.old.trace.log (effects_by_change self.old (M.words memory.now) change) }
+        ensures { self.new ≡ core_with_effects self.old (effects_by_change self.old (M.words memory.now) change) }
     {
         let Some(change) = change else {
             return;

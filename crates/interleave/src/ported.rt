@@ -3,8 +3,7 @@
 
 ghost use Rattle.std.specs.Prelude.{◌≡◌, ◌≤◌, false, Ok, None};
 ghost use Rattle.interleave.specs.Asked.{HoldsOver};
-ghost use Rattle.interleave.specs.Core.{roomy_over};
-ghost use Rattle.interleave.specs.Rules.{evicting, recovering, starting, stepping, IsByAlone, IsByRule};
+ghost use Rattle.interleave.specs.Rules.{evicting, recovering, starting, stepping, IsByAloneOver, IsByRuleOver};
 
 use crate::lent::Core;
 use persist::{Change, Memory};
@@ -20,8 +19,7 @@ impl Core {
         call: Call,
     ) -> Result<(), Refusal>
         requires { HoldsOver self.old memory.old }
-        ensures by_rule { IsByRule (starting client number call) (roomy_over self.old memory.old.words) result
-            (roomy_over self.new memory.new.words) }
+        ensures by_rule { IsByRuleOver (starting client number call) self.old memory.old.words result self.new memory.new.words }
         ensures holds { HoldsOver self.new memory.new }
     {
         self.start(memory, client, number, call)
@@ -34,8 +32,7 @@ impl Core {
         client: Client,
     ) -> Result<Option<Reply>, Refusal>
         requires { HoldsOver self.old memory.old }
-        ensures by_rule { IsByRule (stepping client) (roomy_over self.old memory.old.words) result
-            (roomy_over self.new memory.new.words) }
+        ensures by_rule { IsByRuleOver (stepping client) self.old memory.old.words result self.new memory.new.words }
         ensures stays { result ≡ Ok None → self.old.trace.room ≤ self.new.trace.room }
         ensures holds { HoldsOver self.new memory.new }
     {
@@ -51,7 +48,7 @@ impl Core {
         client: Client,
     ) -> Result<(Reply, u32), Refusal>
         requires { HoldsOver self.old memory.old }
-        ensures alone { IsByAlone client (roomy_over self.old memory.old.words) result (roomy_over self.new memory.new.words) }
+        ensures alone { IsByAloneOver client self.old memory.old.words result self.new memory.new.words }
         ensures holds { HoldsOver self.new memory.new }
     {
         self.run_alone(&mut memory.port(client.0 as usize)?, client)
@@ -64,8 +61,7 @@ impl Core {
         word: usize,
     ) -> Result<Option<Change>, Refusal>
         requires { HoldsOver self.old memory.old }
-        ensures by_rule { IsByRule (evicting word) (roomy_over self.old memory.old.words) result
-            (roomy_over self.new memory.new.words) }
+        ensures by_rule { IsByRuleOver (evicting word) self.old memory.old.words result self.new memory.new.words }
         ensures room { self.new.trace.room ≡ self.old.trace.room }
         ensures holds { HoldsOver self.new memory.new }
     {
@@ -75,8 +71,7 @@ impl Core {
     /// As [`Core::recover_step`], through recovery's port.
     pub(crate) fn recover_step_in(&mut self, memory: &mut Memory) -> Result<bool, Refusal>
         requires { HoldsOver self.old memory.old }
-        ensures by_rule { IsByRule recovering (roomy_over self.old memory.old.words) result
-            (roomy_over self.new memory.new.words) }
+        ensures by_rule { IsByRuleOver recovering self.old memory.old.words result self.new memory.new.words }
         ensures stays { result ≡ Ok false → self.old.trace.room ≤ self.new.trace.room }
         ensures holds { HoldsOver self.new memory.new }
     {

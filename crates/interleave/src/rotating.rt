@@ -2,15 +2,15 @@
 
 ghost use Rattle.std.specs.Prelude.{◌≡◌, ◌≤◌, true, false, Ok, Err, IfOk, IfErr, OnOk};
 ghost use Rattle.persist.specs.Memory.{Words};
-ghost use Rattle.arena.specs.Content.{kept_content as content_of};
 ghost use Rattle.sound_words.specs.Sound.{AreSoundWords};
 ghost use Rattle.sound_words.specs.Told.{tells_by};
 ghost use Rattle.interleave.specs.Calls.{is_no_memory};
+ghost use Rattle.interleave.specs.Content.{content_by};
 ghost use Rattle.interleave.specs.Core.{state_of};
 ghost use Rattle.interleave.specs.Holds.{Holds};
 ghost use Rattle.interleave.specs.Ranges.{KeptFit};
 ghost use Rattle.interleave.specs.Values.{value_of_place};
-ghost use Rattle.interleave.specs.Rotation.{after_rotate, after_rotation, rotate_result, some_client_calls};
+ghost use Rattle.interleave.specs.Rotation.{rotate_result, some_client_calls, BeginsAnew, IsLeftByRotate};
 
 use crate::content::content;
 use crate::lent::Core;
@@ -41,8 +41,7 @@ impl Core {
     /// way (NotReady), where a call is (Busy), and for want of memory (NoMemory).
     pub fn prepare_rotation<K: KeptWords>(&self, kept: &K) -> Result<Vec<Value>, Refusal>
         requires { KeptFit self.now.shape (K.kept_words kept.now) }
-        ensures base { IfOk result (λ base. base.items
-            ≡ content_of self.now.shape (value_of_place self.now.shape (K.kept_words kept.now))) }
+        ensures base { IfOk result (λ base. base.items ≡ content_by self.now.shape (K.kept_words kept.now)) }
         ensures quiet { (ws : Words) → OnOk result (rotate_result false (state_of self.now ws) ≡ Ok tt) }
         ensures errors { (ws : Words) → IfErr result (λ e. rotate_result true (state_of self.now ws) ≡ Err e) }
     {
@@ -61,10 +60,8 @@ impl Core {
     pub fn begin_anew<K: KeptWords>(&mut self, kept: &K, base: Vec<Value>)
         requires sound { AreSoundWords self.old.shape (K.kept_words kept.now) }
         requires quiet { (ws : Words) → rotate_result false (state_of self.old ws) ≡ Ok tt }
-        requires base { base.items
-            ≡ content_of self.old.shape (value_of_place self.old.shape (K.kept_words kept.now)) }
-        ensures world { (ws : Words) → ws.kept ≡ K.kept_words kept.now
-            → state_of self.new ws ≡ after_rotation (state_of self.old ws) }
+        requires base { base.items ≡ content_by self.old.shape (K.kept_words kept.now) }
+        ensures world { BeginsAnew (K.kept_words kept.now) self.old self.new }
         ensures room { self.old.trace.room ≤ self.new.trace.room }
         ensures holds { (ws : Words) → ws.kept ≡ K.kept_words kept.now
             → Holds (state_of self.old ws) → Holds (state_of self.new ws) }
@@ -80,8 +77,7 @@ impl Core {
     pub fn rotate<K: KeptWords>(&mut self, kept: &K) -> Result<(), Refusal>
         requires fit { KeptFit self.old.shape (K.kept_words kept.now) }
         requires sound { AreSoundWords self.old.shape (K.kept_words kept.now) }
-        ensures world { (ws : Words) → ws.kept ≡ K.kept_words kept.now
-            → state_of self.new ws ≡ after_rotate (is_no_memory result) (state_of self.old ws) }
+        ensures world { IsLeftByRotate (is_no_memory result) (K.kept_words kept.now) self.old self.new }
         ensures result { (ws : Words) → result ≡ rotate_result (is_no_memory result) (state_of self.old ws) }
         ensures room { self.old.trace.room ≤ self.new.trace.room }
     {

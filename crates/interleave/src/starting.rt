@@ -1,18 +1,17 @@
 //! The start of a call.
 
-ghost use Rattle.std.specs.Prelude.{◌≡◌, ◌≤◌, ◌<◌, ◌+◌, ◌++◌, ◌∷◌, [], ◌==◌, length, slice_get, slice_set, slice_index, Some, None, true, if◌then◌else◌, Ok, IfErr};
+ghost use Rattle.std.specs.Prelude.{◌≡◌, ◌≤◌, ◌<◌, ◌+◌, length, slice_get, slice_set, slice_index, Some, None, true, Ok, IfErr};
 ghost use Rattle.persist.specs.Memory.{Load};
 ghost use Rattle.arena.specs.Layout.{size_of, word_at};
 ghost use Rattle.arena.specs.Place.{IsPlace};
 ghost use Rattle.arena.specs.declared.place.Place.TheVariants.{Bump};
 ghost use Rattle.stepper.specs.Step.{after_one};
-ghost use Rattle.helping.specs.Table.{begun_at};
-ghost use Rattle.events.specs.declared.event.Event.TheVariants.{Call as call_event};
 ghost use Rattle.interleave.specs.Calls.{is_no_memory};
-ghost use Rattle.interleave.specs.Core.{roomy_over, state_of};
+ghost use Rattle.interleave.specs.Core.{call_begun_by, left_by_start, state_of};
 ghost use Rattle.interleave.specs.Holds.{Holds};
-ghost use Rattle.interleave.specs.Rules.{starting, IsByRule};
-ghost use Rattle.interleave.specs.State.{start_with, start_result_with};
+ghost use Rattle.interleave.specs.Rules.{starting, IsByRuleOver};
+ghost use Rattle.interleave.specs.State.{start_result_with};
+ghost use Rattle.interleave.specs.Trace.{AddsCall, AddsIssued};
 
 use crate::calls::record_number;
 use crate::lent::Core;
@@ -41,15 +40,12 @@ impl Core {
         requires room { 0 < self.old.trace.room }
         ensures shape { self.new.shape ≡ self.old.shape }
         ensures queue { self.new.queue ≡ self.old.queue }
-        ensures calls { let place = length self.old.trace.log.events in
-            self.new.calls ≡ slice_set self.old.calls begun.now.client.0
-            (Some (record { place = place; begun = begun.now; op = begun_at self.old.shape.kind begun.now })) }
+        ensures calls { self.new.calls
+            ≡ slice_set self.old.calls begun.now.client.0 (Some (call_begun_by self.old begun.now)) }
         ensures base { self.new.trace.base ≡ self.old.trace.base }
         ensures told { self.new.trace.told ≡ self.old.trace.told }
-        ensures events { self.new.trace.log.events
-            ≡ self.old.trace.log.events ++ call_event begun.now.client begun.now.number begun.now.call ∷ [] }
-        ensures issued { let place = length self.old.trace.log.events in
-            self.new.trace.log.issued ≡ self.old.trace.log.issued ++ record { place = place; begun = begun.now } ∷ [] }
+        ensures events { AddsCall begun.now self.old.trace self.new.trace }
+        ensures issued { AddsIssued begun.now self.old.trace self.new.trace }
         ensures effects { self.new.trace.log.effects ≡ self.old.trace.log.effects }
         ensures recovery { self.new.trace.recovery ≡ self.old.trace.recovery }
         ensures room { self.old.trace.room ≤ self.new.trace.room + 1 }
@@ -75,7 +71,7 @@ impl Core {
         requires ready { self.old.trace.recovery ≡ None }
         requires idle { slice_get self.old.calls client.0 ≡ Some None }
         ensures world { state_of self.new (M.words memory.new)
-            ≡ start_with (is_no_memory result) (state_of self.old (M.words memory.old)) client call (Ok number) }
+            ≡ left_by_start result self.old (M.words memory.old) client number call }
         ensures result { result
             ≡ start_result_with (is_no_memory result) (state_of self.old (M.words memory.old)) client (Ok number) }
         ensures lent { M.lent memory.new ≡ M.lent memory.old }
@@ -114,8 +110,8 @@ impl Core {
         call: Call,
     ) -> Result<(), Refusal>
         requires holds { Holds (state_of self.old (M.words memory.old)) }
-        ensures by_rule { IsByRule (starting client number call) (roomy_over self.old (M.words memory.old)) result
-            (roomy_over self.new (M.words memory.new)) }
+        ensures by_rule { IsByRuleOver (starting client number call) self.old (M.words memory.old) result
+            self.new (M.words memory.new) }
         ensures lent { M.lent memory.new ≡ M.lent memory.old }
         ensures holds { Holds (state_of self.new (M.words memory.new)) }
     {

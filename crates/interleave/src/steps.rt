@@ -1,21 +1,22 @@
 //! One step of a call.
 
-ghost use Rattle.std.specs.Prelude.{◌≡◌, ◌≤◌, ◌<◌, ◌+◌, length, is_some, slice_get, slice_index_or, slice_set, Err, Some, None, Ok, IfErr, IfOk, IsSome};
+ghost use Rattle.std.specs.Prelude.{◌≡◌, ◌≤◌, ◌<◌, ◌+◌, length, slice_index_or, Err, None, Ok, IfErr, IfOk, IsSome};
 ghost use Rattle.std.specs.Option.{option_copied};
 ghost use Rattle.persist.specs.Noted.{answer_in, change_in, IsNoted};
 ghost use Rattle.arena.specs.Layout.{size_of};
-ghost use Rattle.stepper.specs.Step.{after_one, change_by, lent_after_one, value_found, IsAskedFor, IsReadInRange};
-ghost use Rattle.helping.specs.Table.{access_of, successor, IsPoint};
-ghost use Rattle.protocol.specs.declared.UnderWay.{UnderWay as AnyUnderWay};
-ghost use Rattle.protocol.specs.Machine.{effects_after, events_after, next_of, with_step, with_next};
-ghost use Rattle.interleave.specs.Asked.{lent_after_step, IfCallAsked};
-ghost use Rattle.interleave.specs.Calls.{answer_of, is_no_memory, waiting_result, went_on_to_nothing, OfCall};
-ghost use Rattle.interleave.specs.Core.{core_with_effects, machine_over, roomy_over, state_of};
+ghost use Rattle.stepper.specs.Step.{IsAskedFor};
+ghost use Rattle.helping.specs.Table.{access_of, IsPoint};
+ghost use Rattle.interleave.specs.Asked.{lent_once_stepped, IfCallAsked};
+ghost use Rattle.interleave.specs.Calls.{answer_of, went_on_to_nothing, GoesOnTo, OfCall};
+ghost use Rattle.interleave.specs.Core.{core_with_effects, state_of, waiting_of};
 ghost use Rattle.interleave.specs.Effects.{AreInSequence};
 ghost use Rattle.interleave.specs.Holds.{Holds};
-ghost use Rattle.interleave.specs.Changes.{effects_on_step, looking};
+ghost use Rattle.interleave.specs.Changes.{effects_by_step, looking};
+ghost use Rattle.interleave.specs.Points.{change_by_op, found_by_op, lent_by_op, next_by_op, words_by_op, FindsInRange};
 ghost use Rattle.interleave.specs.Ranges.{WordsFit, IsSafe};
-ghost use Rattle.interleave.specs.Rules.{stepping, IsByRule};
+ghost use Rattle.interleave.specs.Rules.{stepping, IsByRuleOver};
+ghost use Rattle.interleave.specs.Stepped.{HasRoomToStep, IsCallStep};
+ghost use Rattle.interleave.specs.Trace.{AddsAnswer, HaveRoom};
 
 use crate::lent::Core;
 use helping::Op;
@@ -44,10 +45,8 @@ fn looking(under_way: &UnderWay) -> Option<usize>
 impl Core {
     /// The call that a client has under way. It is looked at where it stands: it is some 190 bytes, and each step looks.
     pub(crate) fn waiting(&self, client: Client) -> Result<&UnderWay, Refusal>
-        ensures ok { IfOk result (λ call. waiting_result (is_some self.now.trace.recovery)
-            (slice_get self.now.calls client.0) ≡ Ok call.now) }
-        ensures errors { IfErr result (λ e. waiting_result (is_some self.now.trace.recovery)
-            (slice_get self.now.calls client.0) ≡ Err e) }
+        ensures ok { IfOk result (λ call. waiting_of self.now client ≡ Ok call.now) }
+        ensures errors { IfErr result (λ e. waiting_of self.now client ≡ Err e) }
     {
         self.calls.waiting(self.trace.is_down(), client)
     }
@@ -63,17 +62,12 @@ impl Core {
     fn step_at<M: WordMemory>(&self, memory: &mut M, op: Op) -> Stepped<Op, Reply>
         requires room { size_of self.now.shape ≤ length (M.words memory.old).cached }
         requires point { IsPoint self.now.shape op }
-        requires read { let s = self.now.shape in let access = access_of s.kind op in
-            IsReadInRange s access (value_found s access (M.words memory.old)) }
+        requires read { FindsInRange self.now.shape op (found_by_op self.now.shape op (M.words memory.old)) }
         requires asked { let s = self.now.shape in IsAskedFor s (access_of s.kind op) (M.lent memory.old).request }
-        ensures one_access { let s = self.now.shape in
-            M.words memory.new ≡ after_one s (access_of s.kind op) (M.words memory.old) }
-        ensures lent { let s = self.now.shape in
-            M.lent memory.new ≡ lent_after_one s (access_of s.kind op) (M.lent memory.old) }
-        ensures next { let s = self.now.shape in let access = access_of s.kind op in
-            result.after ≡ successor s.kind op (value_found s access (M.words memory.old)) }
-        ensures change { let s = self.now.shape in
-            result.change ≡ change_by s (access_of s.kind op) (M.words memory.old) }
+        ensures one_access { M.words memory.new ≡ words_by_op self.now.shape op (M.words memory.old) }
+        ensures lent { M.lent memory.new ≡ lent_by_op self.now.shape op (M.lent memory.old) }
+        ensures next { result.after ≡ next_by_op self.now.shape op (M.words memory.old) }
+        ensures change { result.change ≡ change_by_op self.now.shape op (M.words memory.old) }
     {
         op.step(&self.layout, memory)
     }
@@ -87,12 +81,9 @@ impl Core {
     )
         requires fit { WordsFit self.old.shape (M.words memory.now) }
         requires sequence { AreInSequence self.old.trace.log.effects }
-        requires room { let w = machine_over self.old (M.words memory.now) in
-            length (effects_on_step w looking stepped.now.change stepped.now.after)
-            ≤ length self.old.trace.log.events }
-        ensures { let w = machine_over self.old (M.words memory.now) in
-            self.new ≡ core_with_effects self.old
-            (effects_on_step w looking stepped.now.change stepped.now.after) }
+        requires room { HaveRoom self.old.trace.log (effects_by_step self.old (M.words memory.now) looking stepped.now) }
+        ensures { self.new
+            ≡ core_with_effects self.old (effects_by_step self.old (M.words memory.now) looking stepped.now) }
     {
         match looking {
             Some(place) => self.trace.look(place, found_nothing(&stepped.after)),
@@ -106,13 +97,11 @@ impl Core {
         requires room { 0 < self.old.trace.room }
         ensures shape { self.new.shape ≡ self.old.shape }
         ensures queue { self.new.queue ≡ self.old.queue }
-        ensures calls { (under_way : AnyUnderWay) → slice_get self.old.calls client.0 ≡ Some (Some under_way)
-            → self.new.calls ≡ slice_set self.old.calls client.0 (with_next under_way after.now) }
+        ensures calls { GoesOnTo client after.now self.old.calls self.new.calls }
         ensures answer { result ≡ answer_of after.now }
         ensures base { self.new.trace.base ≡ self.old.trace.base }
         ensures told { self.new.trace.told ≡ self.old.trace.told }
-        ensures log { self.new.trace.log
-            ≡ record self.old.trace.log { events = events_after self.old.trace.log.events client after.now } }
+        ensures log { AddsAnswer client after.now self.old.trace self.new.trace }
         ensures recovery { self.new.trace.recovery ≡ self.old.trace.recovery }
         ensures room { self.old.trace.room ≤ self.new.trace.room + 1 }
         ensures stays { result ≡ None → self.new.trace.room ≡ self.old.trace.room }
@@ -137,25 +126,15 @@ impl Core {
         requires asked { IfCallAsked self.old.shape (slice_index_or self.old.calls client.0 None)
             (M.lent memory.old).request }
         requires sequence { AreInSequence self.old.trace.log.effects }
-        requires effects { let w = machine_over self.old (M.words memory.old) in OfCall self.old.calls client (λ u.
-            length (effects_after w u u.op) ≤ length self.old.trace.log.events) }
+        requires effects { OfCall self.old.calls client (λ u. HasRoomToStep self.old (M.words memory.old) u) }
         requires room { 0 < self.old.trace.room }
-        ensures words { let s = self.old.shape in OfCall self.old.calls client (λ u.
-            M.words memory.new ≡ after_one s (access_of s.kind u.op) (M.words memory.old)) }
-        ensures lent { let s = self.old.shape in OfCall self.old.calls client (λ u.
-            M.lent memory.new ≡ lent_after_one s (access_of s.kind u.op) (M.lent memory.old)) }
+        ensures step { IsCallStep client self.old (M.words memory.old) self.new (M.words memory.new) result }
+        ensures lent { OfCall self.old.calls client (λ u.
+            M.lent memory.new ≡ lent_by_op self.old.shape u.op (M.lent memory.old)) }
         ensures shape { self.new.shape ≡ self.old.shape }
         ensures queue { self.new.queue ≡ self.old.queue }
-        ensures calls { let w = machine_over self.old (M.words memory.old) in OfCall self.old.calls client (λ u.
-            self.new.calls ≡ slice_set self.old.calls client.0 (with_next u (next_of w u))) }
         ensures base { self.new.trace.base ≡ self.old.trace.base }
         ensures told { self.new.trace.told ≡ self.old.trace.told }
-        ensures log { let w = machine_over self.old (M.words memory.old) in OfCall self.old.calls client (λ u.
-            self.new.trace.log ≡ (with_step w client u).log) }
-        ensures answer { let w = machine_over self.old (M.words memory.old) in OfCall self.old.calls client (λ u.
-            result.answer ≡ answer_of (next_of w u)) }
-        ensures change { let s = self.old.shape in OfCall self.old.calls client (λ u.
-            result.change ≡ change_by s (access_of s.kind u.op) (M.words memory.old)) }
         ensures recovery { self.new.trace.recovery ≡ self.old.trace.recovery }
         ensures room { self.old.trace.room ≤ self.new.trace.room + 1 }
         ensures stays { result.answer ≡ None → self.new.trace.room ≡ self.old.trace.room }
@@ -182,12 +161,12 @@ impl Core {
         requires holds { Holds (state_of self.old (M.words memory.old)) }
         requires asked { IfCallAsked self.old.shape (slice_index_or self.old.calls client.0 None)
             (M.lent memory.old).request }
-        ensures by_rule { IsByRule (stepping client) (roomy_over self.old (M.words memory.old)) (answer_in result)
-            (roomy_over self.new (M.words memory.new)) }
+        ensures by_rule { IsByRuleOver (stepping client) self.old (M.words memory.old) (answer_in result)
+            self.new (M.words memory.new) }
         ensures stays { answer_in result ≡ Ok None → self.old.trace.room ≤ self.new.trace.room }
         ensures holds { Holds (state_of self.new (M.words memory.new)) }
-        ensures lent { M.lent memory.new ≡ lent_after_step (is_no_memory (answer_in result))
-            (state_of self.old (M.words memory.old)) client (M.lent memory.old) }
+        ensures lent { M.lent memory.new
+            ≡ lent_once_stepped (answer_in result) client self.old (M.words memory.old) (M.lent memory.old) }
         ensures noted { IsNoted (change_in result) (M.words memory.old).kept (M.words memory.new).kept }
     {
         let begun = &self.waiting(client)?.begun;
@@ -214,12 +193,12 @@ impl Core {
         requires holds { Holds (state_of self.old (M.words memory.old)) }
         requires asked { IfCallAsked self.old.shape (slice_index_or self.old.calls client.0 None)
             (M.lent memory.old).request }
-        ensures by_rule { IsByRule (stepping client) (roomy_over self.old (M.words memory.old)) result
-            (roomy_over self.new (M.words memory.new)) }
+        ensures by_rule { IsByRuleOver (stepping client) self.old (M.words memory.old) result
+            self.new (M.words memory.new) }
         ensures stays { result ≡ Ok None → self.old.trace.room ≤ self.new.trace.room }
         ensures holds { Holds (state_of self.new (M.words memory.new)) }
-        ensures lent { M.lent memory.new ≡ lent_after_step (is_no_memory result)
-            (state_of self.old (M.words memory.old)) client (M.lent memory.old) }
+        ensures lent { M.lent memory.new
+            ≡ lent_once_stepped result client self.old (M.words memory.old) (M.lent memory.old) }
     {
         Ok(self.step_noted(memory, client)?.answer)
     }

@@ -2,16 +2,15 @@
 //! recovery is.
 
 ghost use Rattle.std.specs.Prelude.{◌≡◌, ◌<◌, ◌≤◌, ◌+◌, ◌++◌, [], ◌∷◌, length, Some, None, is_some, true, IfSome, OnOk, OnErr};
-ghost use Rattle.events.specs.Effects.{with_effect, without_pending, with_settled, settled_effects};
-ghost use Rattle.interleave.specs.Effects.{effects_with_look, AreInSequence};
-ghost use Rattle.events.specs.declared.event.Event.TheVariants.{Call as call_event, Return as return_event, Crash as crash_event, Ready as ready_event};
-ghost use Rattle.stepper.specs.Step.{after_one, change_by, lent_after_one, value_found};
-ghost use Rattle.recover.specs.Table.{access_of, boot_recovery, recovery_after};
-ghost use Rattle.recover.specs.declared.recovery.Recovery.{Recovery as AnyRecovery};
-ghost use Rattle.interleave.specs.Asked.{IfRecoveryAsked};
-ghost use Rattle.interleave.specs.Recoveries.{HasReached, MayRecover};
+ghost use Rattle.events.specs.Effects.{with_settled, settled_effects};
+ghost use Rattle.events.specs.declared.event.Event.TheVariants.{Return as return_event, Crash as crash_event};
+ghost use Rattle.recover.specs.Table.{boot_recovery};
 ghost use Rattle.protocol.specs.Rotated.{empty_trace};
-ghost use Rattle.interleave.specs.Trace.{with_effects};
+ghost use Rattle.interleave.specs.Asked.{IfRecoveryAsked};
+ghost use Rattle.interleave.specs.Effects.{AreInSequence};
+ghost use Rattle.interleave.specs.Points.{change_by_recovery, lent_by_recovery, next_by_recovery, words_by_recovery};
+ghost use Rattle.interleave.specs.Recoveries.{HasReached, MayRecover, OfRecovery};
+ghost use Rattle.interleave.specs.Trace.{effects_once_looked, effects_once_taken, with_effects, AddsCall, AddsIssued, AddsReady, HaveRoom};
 
 use crate::effects::{forget, settle};
 use arena::Layout;
@@ -144,10 +143,8 @@ impl Trace {
         requires { 0 < self.old.room }
         ensures base { self.new.base ≡ self.old.base }
         ensures told { self.new.told ≡ self.old.told }
-        ensures events { self.new.log.events
-            ≡ self.old.log.events ++ call_event begun.now.client begun.now.number begun.now.call ∷ [] }
-        ensures issued { self.new.log.issued
-            ≡ self.old.log.issued ++ record { place = length self.old.log.events; begun = begun.now } ∷ [] }
+        ensures events { AddsCall begun.now self.old self.new }
+        ensures issued { AddsIssued begun.now self.old self.new }
         ensures effects { self.new.log.effects ≡ self.old.log.effects }
         ensures recovery { self.new.recovery ≡ self.old.recovery }
         ensures room { self.old.room ≤ self.new.room + 1 }
@@ -209,12 +206,14 @@ impl Trace {
         ensures base { self.new.base ≡ self.old.base }
         ensures told { self.new.told ≡ self.old.told }
         ensures log { self.new.log ≡ self.old.log }
-        ensures step { (r : AnyRecovery) → self.old.recovery ≡ Some r → let s = layout.now in
-            let access = access_of s.kind r.at in (M.words memory.new ≡ after_one s access (M.words memory.old))
-            × (M.lent memory.new ≡ lent_after_one s access (M.lent memory.old))
-            × HasReached result.answer self.new.recovery (recovery_after s r (value_found s access (M.words memory.old))) }
-        ensures change { (r : AnyRecovery) → self.old.recovery ≡ Some r → let s = layout.now in
-            result.change ≡ change_by s (access_of s.kind r.at) (M.words memory.old) }
+        ensures words { OfRecovery self.old.recovery (λ r.
+            M.words memory.new ≡ words_by_recovery layout.now r (M.words memory.old)) }
+        ensures lent { OfRecovery self.old.recovery (λ r.
+            M.lent memory.new ≡ lent_by_recovery layout.now r (M.lent memory.old)) }
+        ensures reached { OfRecovery self.old.recovery (λ r.
+            HasReached result.answer self.new.recovery (next_by_recovery layout.now r (M.words memory.old))) }
+        ensures change { OfRecovery self.old.recovery (λ r.
+            result.change ≡ change_by_recovery layout.now r (M.words memory.old)) }
         ensures room { self.new.room ≡ self.old.room }
     {
         match self.recovery.as_mut() {
@@ -234,10 +233,9 @@ impl Trace {
         ensures told { self.new.told ≡ self.old.told }
         ensures issued { self.new.log.issued ≡ self.old.log.issued }
         ensures effects { self.new.log.effects ≡ self.old.log.effects }
-        ensures events { (r : AnyRecovery) → self.old.recovery ≡ Some r
-            → self.new.log.events ≡ self.old.log.events ++ ready_event r.told ∷ [] }
+        ensures events { AddsReady self.old self.new }
         ensures recovery { self.new.recovery ≡ None }
-        ensures answer { (r : AnyRecovery) → self.old.recovery ≡ Some r → result ≡ r.told }
+        ensures answer { OfRecovery self.old.recovery (λ r. result ≡ r.told) }
         ensures room { self.old.room ≤ self.new.room + 1 }
     {
         let told = match &self.recovery {
@@ -268,8 +266,7 @@ impl Trace {
     /// The call at the place takes effect, with this reply.
     pub(crate) fn take(&mut self, place: usize, reply: Reply)
         requires { length self.old.log.effects < length self.old.log.events }
-        ensures same { self.new
-            ≡ with_effects self.old (with_effect place reply (length self.old.log.events) self.old.log.effects) }
+        ensures same { self.new ≡ with_effects self.old (effects_once_taken self.old.log place reply) }
     {
         let moment = self.history.events.len();
         self.effects.push_reserved(Effect {
@@ -283,10 +280,8 @@ impl Trace {
     /// The call at the place looks, and finds the queue empty or not. What it found before counts no more.
     pub(crate) fn look(&mut self, place: usize, empty: bool)
         requires sequence { AreInSequence self.old.log.effects }
-        requires room { length (effects_with_look place empty (length self.old.log.events) self.old.log.effects)
-            ≤ length self.old.log.events }
-        ensures same { self.new
-            ≡ with_effects self.old (effects_with_look place empty (length self.old.log.events) self.old.log.effects) }
+        requires room { HaveRoom self.old.log (effects_once_looked self.old.log place empty) }
+        ensures same { self.new ≡ with_effects self.old (effects_once_looked self.old.log place empty) }
     {
         let moment = self.history.events.len();
         forget(&mut self.effects, place);

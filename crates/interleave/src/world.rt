@@ -1,7 +1,6 @@
 //! The world of one queue.
 
 ghost use Rattle.std.specs.Prelude.{◌≡◌, ◌≤◌, ◌<◌, ◌+◌, length, true, false, Ok, IfOk, IfErr, OnOk, OnErr};
-ghost use Rattle.words.specs.declared.call.Call.{Call as AnyCall};
 ghost use Rattle.protocol.specs.declared.acts.Act.{Act};
 ghost use Rattle.sound_words.specs.Sound.{AreSoundWords};
 ghost use Rattle.interleave.specs.Booted.{booted_world, MayRefuse};
@@ -15,7 +14,7 @@ ghost use Rattle.interleave.specs.Rules.{crashing, evicting, recovering, startin
 ghost use Rattle.interleave.specs.Runs.{IsAttempt, IsRun};
 ghost use Rattle.interleave.specs.State.{new_world, world_over, count_of, is_down, kept_content, kept_tells, most_to_ready, order_in, steps_to_ready, IsKeptSound};
 ghost use Rattle.interleave.specs.Telling.{IsToldAtReady};
-ghost use Rattle.interleave.specs.Turn.{IsInTurn, IsServedAlone, NobodyCalls};
+ghost use Rattle.interleave.specs.Turn.{IsInTurn, IsServedInTurn, NobodyCalls};
 
 use crate::acts::{Act, Ran};
 use crate::lent::Core;
@@ -248,8 +247,7 @@ impl World {
     pub fn run_alone(&mut self, client: Client) -> Result<(Reply, u32), Refusal>
         ensures alone { IsByAlone client self.old result self.new }
         ensures goes_on { GoesOnExplained self.old.now self.new.now }
-        ensures turn { IfOk result (λ answer. (call : AnyCall) → IsInTurn self.old.now client call
-            → IsServedAlone self.old.now call answer.0 self.new.now) }
+        ensures turn { IfOk result (λ answer. IsServedInTurn client self.old.now answer.0 self.new.now) }
     {
         self.core.run_alone_in(&mut self.memory, client)
     }

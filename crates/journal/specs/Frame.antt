@@ -11,6 +11,10 @@ pub record Batch : Type 0 where
   pub kept : ℕ
   pub changes : List Change
 
+-- of these changes, made when so many bytes were kept
+abbrev pub batch_of : ℕ → List Change → Batch
+batch_of kept changes = record { kept = kept; changes = changes }
+
 -- a change: its word in four bytes, its new value in eight
 abbrev pub change_bytes : Change → List ℕ
 change_bytes change = to_le_bytes w32 change.word ++ to_le_bytes w64 change.new

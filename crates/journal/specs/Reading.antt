@@ -174,6 +174,10 @@ read_on (Ok head) = Ok (read_of head.key (replay head.key head.sum head.words he
 abbrev pub reading : List ℕ → Result Read Fault
 reading bytes = read_on (head_reading bytes)
 
+-- they are read as these words under this key, and so many bytes are cut off
+abbrev pub ReadsAs : List ℕ → List ℕ → ℕ → List ℕ → Type 0
+ReadsAs key words cut bytes = reading bytes ≡ Ok (record { key = key; words = words; cut = cut })
+
 -- ---- what a tail may hide
 
 -- whether bytes begin, so far behind the beginning of the file, with a frame that is whole by its own sum, and that was

@@ -1,46 +1,39 @@
 //! What holds of every journal.
 
-ghost use Rattle.std.specs.Prelude.{◌≡◌, ◌≤◌, ℕ, List, Ok, false, [], ◌∷◌, ◌++◌, length, replicate, take};
+ghost use Rattle.std.specs.Prelude.{◌≡◌, ℕ, List, Ok, [], ◌∷◌, ◌++◌, length, replicate};
 ghost use Rattle.persist.specs.Image.{AreBytes};
 ghost use Rattle.persist.specs.declared.access.Change.{Change};
 ghost use Rattle.journal.specs.declared.format.TheConstants.{KEY_BYTES};
-ghost use Rattle.journal.specs.Frame.{Batch, IsBatchIn, frame_of};
+ghost use Rattle.journal.specs.Frame.{Batch, IsBatchIn};
 ghost use Rattle.persist.specs.Noted.{applied};
-ghost use Rattle.journal.specs.Journal.{IsJournal, changes_of, end_behind, end_of, end_sum, journal_of, words_after};
-ghost use Rattle.journal.specs.Reading.{Read, goes_on, reading};
-ghost use Rattle.journal.specs.Stops.{IsReadOf, LeavesBatches, LeftByStop};
+ghost use Rattle.journal.specs.Journal.{IsJournal, changes_of, compacted, end_behind, end_of, frame_behind, journal_of, words_after};
+ghost use Rattle.journal.specs.Reading.{Read, ReadsAs, reading};
+ghost use Rattle.journal.specs.Stops.{EachCutIsLeft, EachStopIsRead, IsReadOfSome, IsTorn, ReadsWithout};
 
 /// A journal is read as the words after all its batches. What follows it, where that does not go on with a whole frame,
 /// is cut off: so are zeros, by which a file may be lengthened ahead.
 pub fn journals_are_read()
     ensures whole { (key base : List ℕ) (batches : List Batch) → IsJournal key base batches
-        → reading (journal_of key base batches) ≡ Ok (record { key = key; words = words_after batches base; cut = 0 }) }
-    ensures torn { (key base : List ℕ) (batches : List Batch) (tail : List ℕ) → IsJournal key base batches
-        → goes_on key (end_sum key base batches) (length base) tail ≡ false
-        → reading (journal_of key base batches ++ tail)
-        ≡ Ok (record { key = key; words = words_after batches base; cut = length tail }) }
+        → ReadsAs key (words_after batches base) 0 (journal_of key base batches) }
+    ensures torn { (key base : List ℕ) (batches : List Batch) (tail : List ℕ)
+        → IsJournal key base batches → IsTorn key base batches tail → ReadsWithout key base batches tail }
     ensures zeros { (key base : List ℕ) (batches : List Batch) (n : ℕ) → IsJournal key base batches
-        → reading (journal_of key base batches ++ replicate n 0)
-        ≡ Ok (record { key = key; words = words_after batches base; cut = n }) }
+        → ReadsAs key (words_after batches base) n (journal_of key base batches ++ replicate n 0) }
 {}
 
 /// A journal that is cut off anywhere behind its head is one that a stop may leave, whatever was kept before the cut.
 /// And whatever a stop leaves is read: as the words after a beginning of its batches, which has all that were kept.
 pub fn stops_leave_a_beginning()
-    ensures cut { (key base : List ℕ) (batches : List Batch) (n kept : ℕ) → IsJournal key base batches
-        → length (journal_of key base (take kept batches)) ≤ n
-        → LeftByStop key base batches (length (journal_of key base (take kept batches)))
-        (take n (journal_of key base batches)) }
-    ensures read { (key base : List ℕ) (batches : List Batch) (kept : ℕ) (bytes : List ℕ) (whole : ℕ) (tail : List ℕ)
-        → IsJournal key base batches → LeavesBatches key base batches kept bytes whole tail
-        → reading bytes ≡ Ok (record { key = key; words = words_after (take whole batches) base; cut = length tail }) }
+    ensures cut { (key base : List ℕ) (batches : List Batch)
+        → IsJournal key base batches → EachCutIsLeft key base batches }
+    ensures read { (key base : List ℕ) (batches : List Batch)
+        → IsJournal key base batches → EachStopIsRead key base batches }
 {}
 
 /// Bytes that are read are a journal, and a tail that does not go on with a whole frame. The words are those after the
 /// batches of that journal, and what was cut off is the tail.
 pub fn only_journals_are_read()
-    ensures { (bytes : List ℕ) (r : Read) → AreBytes bytes → reading bytes ≡ Ok r
-        → (base : List ℕ) × (batches : List Batch) × (tail : List ℕ) × IsReadOf bytes r base batches tail }
+    ensures { (bytes : List ℕ) (r : Read) → AreBytes bytes → reading bytes ≡ Ok r → IsReadOfSome bytes r }
 {}
 
 /// What a writer appends makes a journal of one batch more of the journal that it goes on from.
@@ -49,7 +42,7 @@ pub fn frames_make_journals()
         → IsJournal key base batches → IsBatchIn (length base) batch → IsJournal key base (batches ++ batch ∷ []) }
     ensures bytes { (key base : List ℕ) (batches : List Batch) (batch : Batch)
         → journal_of key base (batches ++ batch ∷ [])
-        ≡ journal_of key base batches ++ frame_of key (end_sum key base batches) batch }
+        ≡ journal_of key base batches ++ frame_behind (end_of key base batches) batch }
     ensures end { (key base : List ℕ) (batches : List Batch) (batch : Batch)
         → end_of key base (batches ++ batch ∷ []) ≡ end_behind (end_of key base batches) batch }
 {}
@@ -60,9 +53,7 @@ pub fn compactions_read_the_same()
     ensures journal { (key base other : List ℕ) (batches : List Batch) → IsJournal key base batches
         → length other ≡ KEY_BYTES → IsJournal other (words_after batches base) [] }
     ensures read { (key base other : List ℕ) (batches : List Batch) → IsJournal key base batches
-        → length other ≡ KEY_BYTES
-        → reading (journal_of other (words_after batches base) [])
-        ≡ Ok (record { key = other; words = words_after batches base; cut = 0 }) }
+        → length other ≡ KEY_BYTES → ReadsAs other (words_after batches base) 0 (compacted other base batches) }
 {}
 
 /// Words after batches are the words after all their changes, and words after two lists of changes those after one list.

@@ -2,7 +2,7 @@
 
 ghost use Rattle.std.specs.Prelude.{◌≡◌, ◌⊎◌, ◌≤◌, ◌<◌, ◌↔◌, length, map, Ok, Err, IsOk, IfOk, IfErr, IsTrue};
 ghost use Rattle.std.specs.Int.{w64, from_le_bytes};
-ghost use Rattle.journal.specs.Reading.{reading, HidesKept};
+ghost use Rattle.journal.specs.Reading.{HidesKept, ReadsAs, reading};
 
 use crate::fault::Fault;
 use crate::format::KEY_BYTES;
@@ -41,8 +41,7 @@ fn numbers(alloc: Global, words: &[[u8; NUMBER_BYTES]]) -> Result<Vec<u64>, Allo
 /// head is cut off (Truncated), where its sum is another (BadSum), and where memory is refused (NoMemory). What follows
 /// the last whole frame is no reason to refuse: [`hides_kept_frame`] tells whether it may be left out.
 pub fn read(alloc: Global, bytes: &[u8]) -> Result<Reading, Fault>
-    ensures read { IfOk result (λ r. reading bytes.now
-        ≡ Ok (record { key = r.key; words = r.words.items; cut = r.cut })) }
+    ensures read { IfOk result (λ r. ReadsAs r.key r.words.items r.cut bytes.now) }
     ensures errors { IfErr result (λ e. (reading bytes.now ≡ Err e)
         ⊎ (e ≡ Fault.Refused Refusal.NoMemory) × IsOk (reading bytes.now)) }
 {

@@ -1,7 +1,7 @@
 //! A journal's head, and its frames, as bytes.
 
 ghost use Rattle.std.specs.Prelude.{◌≡◌, ◌⊎◌, ◌^◌, ◌≤◌, ◌++◌, ◌↔◌, ◌<◌, [], All, length, take, IsTrue, IfOk, IfErr, OnOk, OnErr};
-ghost use Rattle.journal.specs.Frame.{change_bytes, frame_of, frame_sum, front_of};
+ghost use Rattle.journal.specs.Frame.{batch_of, change_bytes, frame_of, frame_sum, front_of};
 ghost use Rattle.journal.specs.Journal.{AreOfWords, head_front, head_of};
 
 use crate::checksum::checksum;
@@ -49,7 +49,7 @@ fn append_front(
     requires few { length changes.now ≤ MAX_CHANGES }
     requires within { AreOfWords (2 ^ 32) changes.now }
     ensures ok { OnOk result (out.new.items
-        ≡ out.old.items ++ front_of before.now (record { kept = kept; changes = changes.now })) }
+        ≡ out.old.items ++ front_of before.now (batch_of kept changes.now)) }
     // A fact of the argument's type, which a caller has from here alone.
     ensures values { OnOk result (All (λ change. change.new < 2 ^ 64) changes.now) }
     ensures begins { take (length out.old.items) out.new.items ≡ out.old.items }
@@ -74,9 +74,9 @@ fn append_frame(
     requires few { length changes.now ≤ MAX_CHANGES }
     requires within { AreOfWords (2 ^ 32) changes.now }
     ensures ok { OnOk result (out.new.items ≡ out.old.items
-        ++ frame_of key.now before.now (record { kept = kept; changes = changes.now })) }
+        ++ frame_of key.now before.now (batch_of kept changes.now)) }
     ensures sum { IfOk result (λ sum. sum
-        ≡ frame_sum key.now before.now (record { kept = kept; changes = changes.now })) }
+        ≡ frame_sum key.now before.now (batch_of kept changes.now)) }
     ensures values { OnOk result (All (λ change. change.new < 2 ^ 64) changes.now) }
     ensures begins { take (length out.old.items) out.new.items ≡ out.old.items }
 {
@@ -116,7 +116,7 @@ impl Model for Writer {
 
 impl Writer {
     ghost use Rattle.journal.specs.Frame.{IsBatchIn};
-    ghost use Rattle.journal.specs.Journal.{AreNoBatch, MayNotBegin, end_behind, end_of};
+    ghost use Rattle.journal.specs.Journal.{MayNotBegin, MayRefuseFrame, end_behind, end_of, frame_behind};
     ghost use Rattle.persist.specs.Image.{AreWords};
 
     /// The head of a journal of these words, as bytes, and where it goes on. It is refused where there is no word, or
@@ -155,15 +155,12 @@ impl Writer {
     /// It is refused where there is no change, or there are more than [`MAX_CHANGES`] (BadCount), where one is of a
     /// word that is not there (NoWord), and where memory is refused (NoMemory). Then the bytes are as they were.
     pub fn frame(&mut self, out: &mut Vec<u8>, kept: u64, changes: &[Change]) -> Result<(), Refusal>
-        ensures ok { OnOk result (out.new.items ≡ out.old.items
-            ++ frame_of self.old.key self.old.sum (record { kept = kept; changes = changes.now })) }
-        ensures goes_on { OnOk result (self.new ≡ end_behind self.old (record { kept = kept; changes = changes.now })) }
-        ensures batch { OnOk result (IsBatchIn self.old.size (record { kept = kept; changes = changes.now })) }
+        ensures ok { OnOk result (out.new.items ≡ out.old.items ++ frame_behind self.old (batch_of kept changes.now)) }
+        ensures goes_on { OnOk result (self.new ≡ end_behind self.old (batch_of kept changes.now)) }
+        ensures batch { OnOk result (IsBatchIn self.old.size (batch_of kept changes.now)) }
         ensures err { OnErr result (out.new.items ≡ out.old.items) }
         ensures stays { OnErr result (self.new ≡ self.old) }
-        ensures errors { IfErr result (λ e. (e ≡ Refusal.BadCount) × AreNoBatch changes.now
-            ⊎ (e ≡ Refusal.NoWord) × (¬ AreOfWords self.old.size changes.now)
-            ⊎ (e ≡ Refusal.NoMemory) × AreOfWords self.old.size changes.now) }
+        ensures errors { IfErr result (MayRefuseFrame self.old.size changes.now) }
     {
         if changes.is_empty() || changes.len() > MAX_CHANGES {
             return Err(Refusal::BadCount);

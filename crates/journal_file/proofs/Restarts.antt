@@ -27,14 +27,6 @@ if_known : (known : Option (List ℕ)) (text : List ℕ) (answer : Result Read F
 if_known None text answer there is = tt
 if_known (Some bytes) text answer there is = ap reading there ∙ is
 
-pub running : (key base : List ℕ) (batches : List Batch) (count : ℕ) (j : OnDevice) (bytes : List ℕ) → IsOf key base batches count j → j.failed ≡ false → j.appended ≡ Some bytes
-    → reading bytes ≡ Ok (record { key = key; words = j.words; cut = 0 })
-running key base batches count j bytes is going known =
-    let on : GoesOn key base batches j = is.going going in
-    ap reading (known_text j.appended bytes (journal_of key base batches) known on.text)
-    ∙ whole_journal_is_read key base batches is.journal
-    ∙ ap (answer key) (sym is.words)
-
 pub running_if_known : (key base : List ℕ) (batches : List Batch) (count : ℕ) (j : OnDevice) (words : List ℕ) → IsOf key base batches count j → j.failed ≡ false → j.words ≡ words
     → IfSome j.appended (λ bytes. reading bytes ≡ Ok (record { key = key; words = words; cut = 0 }))
 running_if_known key base batches count j words is going same =

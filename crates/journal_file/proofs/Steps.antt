@@ -1,5 +1,5 @@
 -- A journal begins, has a batch more, and is kept.
-use Rattle.std.proofs.Common.{◌≡◌, ◌⊎◌, inl, inr, ℕ, ◌+◌, ◌≤◌, Bool, true, false, List, [], ◌∷◌, ◌++◌, Option, Some, None, length, take, drop, arith, refl, subst, sym, ap, ◌∙◌}
+use Rattle.std.proofs.Common.{◌≡◌, ◌⊎◌, inr, ℕ, ◌+◌, ◌≤◌, Bool, true, false, List, [], ◌∷◌, ◌++◌, Option, Some, None, length, take, drop, arith, refl, subst, sym, ap, ◌∙◌}
 use Rattle.std.specs.Prelude.{IfSome}
 use Rattle.std.specs.Io.KnownBytes.{append_known}
 use Rattle.std.proofs.Math.Seq.{take-append-add}
@@ -7,12 +7,11 @@ use Rattle.std.proofs.lemmas.Bool.{false≢true}
 use Rattle.std.proofs.lemmas.List.Elements.{All-nil}
 use Rattle.std.proofs.lemmas.List.{append-nil, length-append, take_all, take_at, take-append-le}
 use Rattle.words.specs.declared.refusal.Refusal.{Refusal}
-use Rattle.words.specs.declared.refusal.Refusal.TheVariants.{BadCount, NoMemory, NoWord}
 use Rattle.persist.specs.Image.{AreWords}
 use Rattle.persist.specs.declared.access.Change.{Change}
 use Rattle.journal.specs.Frame.{Batch, IsBatchIn, frame_of}
 use Rattle.persist.specs.Noted.{applied}
-use Rattle.journal.specs.Journal.{AreNoBatch, AreOfWords, End, IsJournal, end_behind, end_of, end_sum, head_of}
+use Rattle.journal.specs.Journal.{MayRefuseFrame, End, IsJournal, end_behind, end_of, end_sum, head_of}
 use Rattle.journal.specs.Journal.{journal_of, words_after}
 use Rattle.journal.proofs.Facts.{end_more, is_journal_anew, is_journal_more, journal_more, length-words_after}
 use Rattle.journal_file.specs.Appended.{AppendsPart, IsAllKept, IsFresh}
@@ -339,8 +338,5 @@ append_done batch words new_words end new_end size new_size kept known new_known
 -- ---- why a frame is refused
 
 pub refused : (e : Refusal) (changes : List Change) (size : ℕ) (words : List ℕ) (Over Full Same : Type 0) → size ≡ length words → Same
-    → (e ≡ BadCount) × AreNoBatch changes ⊎ (e ≡ NoWord) × (¬ AreOfWords size changes) ⊎ (e ≡ NoMemory) × AreOfWords size changes
-    → Over ⊎ Full ⊎ (e ≡ BadCount) × AreNoBatch changes × Same ⊎ (e ≡ NoWord) × (¬ AreOfWords (length words) changes) × Same ⊎ (e ≡ NoMemory) × AreOfWords (length words) changes × Same
-refused e changes size words Over Full Same is same (inl bad) = inr (inr (inl (bad.0, bad.1, same)))
-refused e changes size words Over Full Same is same (inr (inl none)) = inr (inr (inr (inl (none.0, subst (λ (n : ℕ). ¬ AreOfWords n changes) is none.1, same))))
-refused e changes size words Over Full Same is same (inr (inr memory)) = inr (inr (inr (inr (memory.0, subst (λ (n : ℕ). AreOfWords n changes) is memory.1, same))))
+    → MayRefuseFrame size changes e → Over ⊎ Full ⊎ MayRefuseFrame (length words) changes e × Same
+refused e changes size words Over Full Same is same may = inr (inr (subst (λ (n : ℕ). MayRefuseFrame n changes e) is may, same))

@@ -1,7 +1,11 @@
 -- Journals on a device.
-use Rattle.std.specs.Prelude.{◌≡◌, ℕ, ◌≤◌, Bool, true, false, List, [], ◌∷◌, ◌++◌, Option, length, take, IfSome}
+use Rattle.std.specs.Prelude.{◌≡◌, ◌⊎◌, ℕ, ◌≤◌, ◌<◌, Bool, true, false, List, [], ◌∷◌, ◌++◌, Option, length, take, IfSome}
+use Rattle.words.specs.declared.refusal.Refusal.{Refusal}
+use Rattle.words.specs.declared.refusal.Refusal.TheVariants.{NoRoom, WriteFailed}
+use Rattle.persist.specs.declared.access.Change.{Change}
 use Rattle.journal.specs.Frame.{Batch}
-use Rattle.journal.specs.Journal.{End, IsJournal, end_of, journal_of, words_after}
+use Rattle.journal.specs.Journal.{End, IsJournal, MayRefuseFrame, end_of, journal_of, words_after}
+use Rattle.journal_file.specs.declared.on_device.TheConstants.{MAX_SIZE}
 
 -- a journal with its device, as contracts see it
 pub record OnDevice : Type 0 where
@@ -63,3 +67,10 @@ abbrev pub HasNoMore : OnDevice → OnDevice → Type 0
 HasNoMore old new =
     (key base : List ℕ) (batches : List Batch) (count : ℕ)
     → IsOf key base batches count old → IsOf key base batches count new
+
+-- an append of these changes may be refused so: the device fails now, or nothing changes
+abbrev pub MayRefuseAppend : OnDevice → List Change → OnDevice → Refusal → Type 0
+MayRefuseAppend old changes new e =
+    (e ≡ WriteFailed) × (new.failed ≡ true)
+    ⊎ (e ≡ NoRoom) × (MAX_SIZE < old.size) × (new ≡ old)
+    ⊎ MayRefuseFrame (length old.words) changes e × (new ≡ old)

@@ -1,8 +1,10 @@
 -- What a journal is read as after a stop of the machine.
-use Rattle.std.specs.Prelude.{◌≡◌, ℕ, ◌≤◌, List, length, take, Ok}
+use Rattle.std.specs.Prelude.{◌≡◌, ℕ, ◌≤◌, List, ◌++◌, Some, length, take}
 use Rattle.journal.specs.Frame.{Batch}
 use Rattle.journal.specs.Journal.{words_after}
-use Rattle.journal.specs.Reading.{reading}
+use Rattle.journal.specs.Reading.{ReadsAs}
+use Rattle.journal.specs.Stops.{LeftByStop}
+use Rattle.journal_file.specs.OnDevice.{OnDevice}
 
 -- bytes are read as the words after a beginning of the batches, which has so many of them at least
 pub record ReadsBeginning (key base : List ℕ) (batches : List Batch) (count : ℕ) (bytes : List ℕ) : Type 0 where
@@ -10,4 +12,21 @@ pub record ReadsBeginning (key base : List ℕ) (batches : List Batch) (count : 
   pub those : count ≤ whole
   pub some : whole ≤ length batches
   pub cut : ℕ
-  pub read : reading bytes ≡ Ok (record { key = key; words = words_after (take whole batches) base; cut = cut })
+  pub read : ReadsAs key (words_after (take whole batches) base) cut bytes
+
+-- whatever a stop leaves of it is read so
+abbrev pub EachStopHas : List ℕ → List ℕ → List Batch → ℕ → OnDevice → Type 0
+EachStopHas key base batches count j =
+    (left : List ℕ) → LeftByStop key base batches j.kept left → ReadsBeginning key base batches count left
+
+-- whatever is left where its device loses nothing from the front on but what was not kept is read so
+abbrev pub EachKillHas : List ℕ → List ℕ → List Batch → ℕ → OnDevice → Type 0
+EachKillHas key base batches count j =
+    (bytes : List ℕ) (n : ℕ) → j.appended ≡ Some bytes → j.lasting ≤ n
+    → ReadsBeginning key base batches count (take n bytes)
+
+-- so it is there, but that there may be one batch more
+abbrev pub EachKillMayHaveMore : List ℕ → List ℕ → List Batch → ℕ → OnDevice → Type 0
+EachKillMayHaveMore key base batches count j =
+    (bytes : List ℕ) (n : ℕ) → j.appended ≡ Some bytes → j.lasting ≤ n
+    → (more : List Batch) × (length more ≤ 1) × ReadsBeginning key base (batches ++ more) count (take n bytes)

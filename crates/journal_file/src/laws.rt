@@ -1,17 +1,15 @@
 //! What holds of every journal on a device.
 
-ghost use Rattle.std.specs.Prelude.{◌≡◌, ◌≤◌, ◌++◌, ℕ, List, Some, Ok, true, false, length, take};
+ghost use Rattle.std.specs.Prelude.{◌≡◌, ℕ, List, true, false, IfSome};
 ghost use Rattle.journal.specs.Frame.{Batch};
-ghost use Rattle.journal.specs.Reading.{reading};
-ghost use Rattle.journal.specs.Stops.{LeftByStop};
+ghost use Rattle.journal.specs.Reading.{ReadsAs};
 ghost use Rattle.journal_file.specs.OnDevice.{IsOf, OnDevice};
-ghost use Rattle.journal_file.specs.Restart.{ReadsBeginning};
+ghost use Rattle.journal_file.specs.Restart.{EachKillHas, EachKillMayHaveMore, EachStopHas};
 
 /// What a device has that has not failed is read as the journal's words, and nothing is cut off.
 pub fn running_journals_are_read()
-    ensures { (key base : List ℕ) (batches : List Batch) (count : ℕ) (j : OnDevice) (bytes : List ℕ)
-        → IsOf key base batches count j → j.failed ≡ false → j.appended ≡ Some bytes
-        → reading bytes ≡ Ok (record { key = key; words = j.words; cut = 0 }) }
+    ensures { (key base : List ℕ) (batches : List Batch) (count : ℕ) (j : OnDevice)
+        → IsOf key base batches count j → j.failed ≡ false → IfSome j.appended (ReadsAs key j.words 0) }
 {}
 
 /// A restart: what is left of a journal is read as the words after a beginning of its batches, which has all that were
@@ -19,13 +17,10 @@ pub fn running_journals_are_read()
 /// from the front on but what was not kept, and `failed` for such a device that has failed: then it may have the frame
 /// of one batch more, whose append was answered by an error.
 pub fn restarts_have_what_was_kept()
-    ensures stopped { (key base : List ℕ) (batches : List Batch) (count : ℕ) (j : OnDevice) (left : List ℕ)
-        → IsOf key base batches count j → LeftByStop key base batches j.kept left
-        → ReadsBeginning key base batches count left }
-    ensures killed { (key base : List ℕ) (batches : List Batch) (count : ℕ) (j : OnDevice) (bytes : List ℕ) (n : ℕ)
-        → IsOf key base batches count j → j.failed ≡ false → j.appended ≡ Some bytes → j.lasting ≤ n
-        → ReadsBeginning key base batches count (take n bytes) }
-    ensures failed { (key base : List ℕ) (batches : List Batch) (count : ℕ) (j : OnDevice) (bytes : List ℕ) (n : ℕ)
-        → IsOf key base batches count j → j.failed ≡ true → j.appended ≡ Some bytes → j.lasting ≤ n
-        → (more : List Batch) × (length more ≤ 1) × ReadsBeginning key base (batches ++ more) count (take n bytes) }
+    ensures stopped { (key base : List ℕ) (batches : List Batch) (count : ℕ) (j : OnDevice)
+        → IsOf key base batches count j → EachStopHas key base batches count j }
+    ensures killed { (key base : List ℕ) (batches : List Batch) (count : ℕ) (j : OnDevice)
+        → IsOf key base batches count j → j.failed ≡ false → EachKillHas key base batches count j }
+    ensures failed { (key base : List ℕ) (batches : List Batch) (count : ℕ) (j : OnDevice)
+        → IsOf key base batches count j → j.failed ≡ true → EachKillMayHaveMore key base batches count j }
 {}

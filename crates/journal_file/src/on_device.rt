@@ -1,6 +1,6 @@
 //! A journal on a device.
 
-ghost use Rattle.std.specs.Prelude.{◌≡◌, ◌⊎◌, ◌<◌, [], Err, Ok, true, false, length, IfOk, IfErr, IfSome, OnOk, OnErr};
+ghost use Rattle.std.specs.Prelude.{◌≡◌, ◌⊎◌, [], Err, true, false, IfOk, IfErr, IfSome, OnOk, OnErr};
 
 use crate::appender::{Appender, append_and_keep};
 use crate::numbers::{apply, copy_of};
@@ -52,10 +52,11 @@ impl<F: Appender + Drop> Model for Journal<F> {
 impl<F: Appender + Drop> Journal<F> {
     ghost use Rattle.persist.specs.Image.{AreWords};
     ghost use Rattle.persist.specs.Noted.{applied};
-    ghost use Rattle.journal.specs.Journal.{AreNoBatch, AreOfWords, MayNotBegin};
-    ghost use Rattle.journal.specs.Reading.{reading};
+    ghost use Rattle.journal.specs.Frame.{batch_of};
+    ghost use Rattle.journal.specs.Journal.{MayNotBegin};
+    ghost use Rattle.journal.specs.Reading.{ReadsAs};
     ghost use Rattle.journal_file.specs.Appended.{IsFresh};
-    ghost use Rattle.journal_file.specs.OnDevice.{HasMore, HasNoMore, IsOf, IsSomeJournal, KeepsAll};
+    ghost use Rattle.journal_file.specs.OnDevice.{HasMore, HasNoMore, IsOf, IsSomeJournal, KeepsAll, MayRefuseAppend};
 
     /// A journal of these words and no batch, which is kept. The device is to have no byte yet. It is refused where
     /// there is no word, or there are more than 8,388,608 (BadCount), then where memory is (NoMemory), and where the
@@ -132,19 +133,14 @@ impl<F: Appender + Drop> Journal<F> {
     /// where memory is refused (NoMemory). Then all stays. Where the device fails now (WriteFailed), it may have a part
     /// of the frame, or all of it, and the words stay.
     pub fn append(&mut self, alloc: Global, changes: &[Change]) -> Result<(), Refusal>
-        ensures journal { OnOk result (HasMore (record { kept = self.old.kept; changes = changes.now })
-            self.old self.new) }
+        ensures journal { OnOk result (HasMore (batch_of self.old.kept changes.now) self.old self.new) }
         ensures words { OnOk result (self.new.words ≡ applied changes.now self.old.words) }
         ensures going { OnOk result (self.new.failed ≡ false) }
         ensures same { OnErr result (self.new.words ≡ self.old.words) }
         ensures no_more { OnErr result (HasNoMore self.old self.new) }
         ensures kept { self.new.kept ≡ self.old.kept }
         ensures over { self.old.failed ≡ true → (self.new ≡ self.old) × (result ≡ Err Refusal.WriteFailed) }
-        ensures errors { IfErr result (λ e. (e ≡ Refusal.WriteFailed) × (self.new.failed ≡ true)
-            ⊎ (e ≡ Refusal.NoRoom) × (MAX_SIZE < self.old.size) × (self.new ≡ self.old)
-            ⊎ (e ≡ Refusal.BadCount) × AreNoBatch changes.now × (self.new ≡ self.old)
-            ⊎ (e ≡ Refusal.NoWord) × (¬ AreOfWords (length self.old.words) changes.now) × (self.new ≡ self.old)
-            ⊎ (e ≡ Refusal.NoMemory) × AreOfWords (length self.old.words) changes.now × (self.new ≡ self.old)) }
+        ensures errors { IfErr result (MayRefuseAppend self.old changes.now self.new) }
     {
         if self.device.has_failed() {
             return Err(Refusal::WriteFailed);
@@ -198,8 +194,7 @@ impl<F: Appender + Drop> Journal<F> {
         requires { IsFresh (F.appended device) }
         ensures journal { IfOk result (IsOf key.now self.now.words [] 0) }
         ensures going { IfOk result (λ j. j.failed ≡ false) }
-        ensures reads { IfOk result (λ j. IfSome j.appended (λ bytes. reading bytes
-            ≡ Ok (record { key = key.now; words = self.now.words; cut = 0 }))) }
+        ensures reads { IfOk result (λ j. IfSome j.appended (ReadsAs key.now self.now.words 0)) }
         ensures errors { IfErr result (λ e. (e ≡ Refusal.NoMemory) ⊎ (e ≡ Refusal.WriteFailed)) }
     {
         let Ok(words) = copy_of(alloc, &self.words) else {

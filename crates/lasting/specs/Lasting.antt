@@ -1,10 +1,11 @@
 -- Journals of shared sessions, of which each beginning ends at a moment, and the later of two goes on from the earlier.
-use Rattle.std.specs.Prelude.{◌≡◌, ◌≤◌, ◌++◌, [], ⊤, ℕ, List, length, take, All, Ok}
+use Rattle.std.specs.Prelude.{◌≡◌, ◌≤◌, ◌++◌, [], ⊤, ℕ, List, length, take, All, Ok, Some}
 use Rattle.persist.specs.declared.access.Change.{Change}
 use Rattle.persist.specs.Noted.{applied}
 use Rattle.journal.specs.Frame.{Batch}
 use Rattle.journal.specs.Journal.{words_after}
 use Rattle.journal.specs.Reading.{reading}
+use Rattle.journal.specs.Stops.{LeftByStop}
 use Rattle.journal_file.specs.OnDevice.{IsOf, OnDevice}
 use Rattle.session.specs.Sessions.{Sessioned}
 use Rattle.workers.specs.Moments.{GoesOnLater, IsMomentOf}
@@ -89,7 +90,24 @@ pub record ReadsMoment (first : Sessioned) (key base : List ℕ) (batches : List
   pub moment : IsMomentOf first (session whole) (words_after (take whole batches) base)
   pub later : (m : ℕ) → m ≤ whole → GoesOnLater (session m) (session whole)
 
--- and from this one
+-- whatever a stop leaves of the journal is read so
+abbrev pub EachStopHasMoment : (first : Sessioned) (j : OnDevice) → HasMoments first j → Type 0
+EachStopHasMoment first j has =
+    (left : List ℕ) → LeftByStop has.key has.base has.batches j.kept left
+    → ReadsMoment first has.key has.base has.batches has.count has.session left
+
+-- and whatever is left where its device loses nothing from the front on but what was not kept
+abbrev pub EachKillHasMoment : (first : Sessioned) (j : OnDevice) → HasMoments first j → Type 0
+EachKillHasMoment first j has =
+    (bytes : List ℕ) (n : ℕ) → j.appended ≡ Some bytes → j.lasting ≤ n
+    → ReadsMoment first has.key has.base has.batches has.count has.session (take n bytes)
+
+-- bytes are read as the words of such a moment, whose session goes on from this one, too
 pub record ReadsLater (first s : Sessioned) (j : OnDevice) (has : HasMoments first j) (bytes : List ℕ) : Type 0 where
   pub reads : ReadsMoment first has.key has.base has.batches has.count has.session bytes
   pub later : GoesOnLater s (has.session reads.whole)
+
+-- so is whatever a stop leaves of the journal, where so many bytes of it were kept
+abbrev pub EachStopHasLater : (first s : Sessioned) (j : OnDevice) → HasMoments first j → ℕ → Type 0
+EachStopHasLater first s j has kept =
+    (left : List ℕ) → LeftByStop has.key has.base has.batches kept left → ReadsLater first s j has left

@@ -1,7 +1,7 @@
 //! The words on which the journal of a session begins.
 
 ghost use Rattle.std.specs.Prelude.{◌≡◌, IfErr, IfOk};
-ghost use Rattle.workers.specs.Moments.{IsMomentOf};
+ghost use Rattle.workers.specs.Moments.{IsFirstMoment};
 
 use named::Broker;
 use persist::{KeptWords, Memory};
@@ -23,7 +23,7 @@ fn kept_words(alloc: Global, memory: &Memory) -> Result<Vec<u64>, AllocError>
 /// The broker of a session, which is at a moment, as every session is.
 fn broker_of(session: &Session) -> &Broker
     ensures broker { result.now ≡ session.now.broker }
-    ensures moment { IsMomentOf session.now session.now session.now.broker.words.kept }
+    ensures moment { IsFirstMoment session.now }
 {
     session.tells_settled();
     session.broker()
@@ -33,7 +33,7 @@ fn broker_of(session: &Session) -> &Broker
 /// want of memory (NoMemory).
 pub fn first_words(alloc: Global, session: &Session) -> Result<Vec<u64>, Refusal>
     ensures words { IfOk result (λ words. words.items ≡ session.now.broker.words.kept) }
-    ensures moment { IsMomentOf session.now session.now session.now.broker.words.kept }
+    ensures moment { IsFirstMoment session.now }
     ensures errors { IfErr result (λ e. e ≡ Refusal.NoMemory) }
 {
     let image = broker_of(session).to_image()?;

@@ -101,33 +101,6 @@ impl<J: Naming, F: Appender + Drop> Journaled<J, F> {
         self.policy
     }
 
-    /// Whether the session of the last hand-on goes on from the marked one. All comes back as it was.
-    pub fn has_handed<R: Wait>(
-        self,
-        rt: &R,
-        shared: &Shared<J>,
-        marked: Marked<J>,
-    ) -> (Self, Marked<J>, bool)
-        ensures handed { result.2 ≡ true → GoesOnLater marked self.last }
-        ensures same { result.0 ≡ self }
-        ensures mark { result.1 ≡ marked }
-    {
-        let Journaled {
-            policy,
-            handed,
-            pending,
-            journal,
-        } = self;
-        let (handed, marked, has) = shared.has_handed(rt, handed, marked);
-        let journaled = Journaled {
-            policy,
-            handed,
-            pending,
-            journal,
-        };
-        (journaled, marked, has)
-    }
-
     /// Assures a session from which that of the last hand-on goes on: all of this is appended, and kept as the policy
     /// says.
     pub fn assure(self, marked: &Marked<J>) -> (Self, Assured<J>)
@@ -175,15 +148,6 @@ impl<J: Naming, F: Appender + Drop> Journaled<J, F> {
         (journaled, assured)
     }
 
-    /// Whether the journal has every change that was handed on.
-    pub fn has_all(&self) -> bool
-        ensures all { result ≡ true → self.now.pending ≡ [] }
-        ensures words { result ≡ true
-            → self.now.journal.words ≡ applied self.now.handed J.first.broker.words.kept }
-    {
-        self.pending.is_empty()
-    }
-
     /// Whether it is known to keep all that was appended.
     pub fn keeps_all(&self) -> bool
         ensures { result ≡ true → self.now.journal.kept ≡ self.now.journal.size }
@@ -210,31 +174,35 @@ impl<J: Naming, F: Appender + Drop> Journaled<J, F> {
         Ok(())
     }
 
-    /// Hands on all changes that the session noted since, and appends them as one batch, behind what is pending. At Ok
-    /// the journal has every change that was handed on. It is refused as [`Shared::hand_on`] and [`Journal::append`]
-    /// are. Then those that were handed on are pending.
+    /// Hands on all changes that the session noted since, and appends them as one batch, behind what is pending. Nothing
+    /// is handed on where the last hand-on goes on from the marked session. At Ok this one does, and the journal has
+    /// every change that was handed on. It is refused as [`Shared::hand_on_to`] and [`Journal::append`] are. Then those
+    /// that were handed on are pending.
     pub fn settle<R: Wait>(
         self,
         rt: &R,
         alloc: Global,
         shared: &Shared<J>,
-    ) -> (Self, Result<(), Refusal>)
-        ensures all { OnOk result.1 (result.0.pending ≡ []) }
-        ensures words { OnOk result.1
+        marked: Marked<J>,
+    ) -> (Self, Marked<J>, Result<(), Refusal>)
+        ensures all { OnOk result.2 (result.0.pending ≡ []) }
+        ensures words { OnOk result.2
             (result.0.journal.words ≡ applied result.0.handed J.first.broker.words.kept) }
         ensures later { GoesOnLater self.last result.0.last }
+        ensures marked { OnOk result.2 (GoesOnLater marked result.0.last) }
+        ensures mark { result.1 ≡ marked }
         ensures policy { result.0.policy ≡ self.policy }
     {
         let mut kept = self;
         if let Err(refusal) = kept.append_pending(alloc) {
-            return (kept, Err(refusal));
+            return (kept, marked, Err(refusal));
         }
-        let (mut kept, handed) = kept.handed_on(rt, alloc, shared);
+        let (mut kept, marked, handed) = kept.handed_on(rt, alloc, shared, marked);
         if let Err(refusal) = handed {
-            return (kept, Err(refusal));
+            return (kept, marked, Err(refusal));
         }
         let appended = kept.append_pending(alloc);
-        (kept, appended)
+        (kept, marked, appended)
     }
 
     /// Hands on what was noted, which is pending then, as nothing was before.
@@ -243,9 +211,12 @@ impl<J: Naming, F: Appender + Drop> Journaled<J, F> {
         rt: &R,
         alloc: Global,
         shared: &Shared<J>,
-    ) -> (Self, Result<(), Refusal>)
+        marked: Marked<J>,
+    ) -> (Self, Marked<J>, Result<(), Refusal>)
         requires { self.pending ≡ [] }
         ensures later { GoesOnLater self.last result.0.last }
+        ensures marked { OnOk result.2 (GoesOnLater marked result.0.last) }
+        ensures mark { result.1 ≡ marked }
         ensures policy { result.0.policy ≡ self.policy }
     {
         let Journaled {
@@ -254,15 +225,26 @@ impl<J: Naming, F: Appender + Drop> Journaled<J, F> {
             pending,
             journal,
         } = self;
-        let (handed, batch) = shared.hand_on(rt, alloc, handed);
+        let (handed, marked, batch) = shared.hand_on_to(rt, alloc, handed, marked);
         match batch {
-            Ok(batch) => (
+            Ok(Some(batch)) => (
                 Journaled {
                     policy,
                     handed,
                     pending: batch,
                     journal,
                 },
+                marked,
+                Ok(()),
+            ),
+            Ok(None) => (
+                Journaled {
+                    policy,
+                    handed,
+                    pending,
+                    journal,
+                },
+                marked,
                 Ok(()),
             ),
             Err(refusal) => (
@@ -272,6 +254,7 @@ impl<J: Naming, F: Appender + Drop> Journaled<J, F> {
                     pending,
                     journal,
                 },
+                marked,
                 Err(refusal),
             ),
         }

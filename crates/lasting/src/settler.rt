@@ -103,31 +103,11 @@ impl<J: Naming, F: Appender + Drop> Settler<J, F> {
         self.failed
     }
 
-    /// Whether what the policy is to have kept is kept.
-    fn is_kept_by_policy(&self) -> bool
-        ensures { result ≡ true → IsKeptBy self.now.policy self.now.kept.journal }
-    {
-        match self.journaled.policy() {
-            Policy::Always => self.journaled.keeps_all(),
-            Policy::EachSecond | Policy::Never => true,
-        }
-    }
-
-    /// Whether every change that was handed on is settled, as after a settle that was answered Ok.
-    fn has_settled(&self) -> bool
-        ensures settled { result ≡ true → HasSettled J.first self.now }
-        ensures going { result ≡ true → self.now.failed ≡ false }
-    {
-        !self.failed
-            && self.journaled.has_all()
-            && !self.journaled.journal().has_failed()
-            && self.is_kept_by_policy()
-    }
-
     /// The journal goes on as its present words on a fresh device, which takes the place of the one in use. Where it
     /// cannot begin there, the one in use goes on; where it is not known which one has the place, it has failed.
     fn compact<S: Storage<F>>(&mut self, alloc: Global, storage: &S) -> Result<(), Refusal>
         ensures handed { self.new.kept.handed ≡ self.old.kept.handed }
+        ensures last { self.new.kept.last ≡ self.old.kept.last }
         ensures pending { self.new.kept.pending ≡ self.old.kept.pending }
         ensures words { self.new.kept.journal.words ≡ self.old.kept.journal.words }
         ensures policy { self.new.policy ≡ self.old.policy }
@@ -152,6 +132,7 @@ impl<J: Naming, F: Appender + Drop> Settler<J, F> {
     /// Keeps what was appended, as the policy says, on a device that has not failed.
     fn keep_by_policy(&mut self) -> Result<(), Refusal>
         ensures handed { self.new.kept.handed ≡ self.old.kept.handed }
+        ensures last { self.new.kept.last ≡ self.old.kept.last }
         ensures pending { self.new.kept.pending ≡ self.old.kept.pending }
         ensures words { self.new.kept.journal.words ≡ self.old.kept.journal.words }
         ensures policy { self.new.policy ≡ self.old.policy }
@@ -198,6 +179,7 @@ impl<J: Naming, F: Appender + Drop> Settler<J, F> {
     fn compact_if_long<S: Storage<F>>(&mut self, alloc: Global, storage: &S) -> Result<(), Failed>
         requires going { self.old.failed ≡ false }
         requires settled { HasSettled J.first self.old }
+        ensures last { self.new.kept.last ≡ self.old.kept.last }
         ensures policy { self.new.policy ≡ self.old.policy }
         ensures settled { OnOk result (HasSettled J.first self.new) }
         ensures failed { self.new.failed ≡ is_err result }
@@ -212,14 +194,18 @@ impl<J: Naming, F: Appender + Drop> Settler<J, F> {
         if self.failed { Err(Failed) } else { Ok(()) }
     }
 
-    /// Hands on what the session noted since, appends it behind what is pending, and keeps it as the policy says.
+    /// Hands on what the session noted since, if not all that was marked is handed on, appends it behind what is
+    /// pending, and keeps it as the policy says.
     fn appended<R: Wait>(
         self,
         rt: &R,
         alloc: Global,
         shared: &Shared<J>,
-    ) -> (Self, Result<(), Refusal>)
-        ensures settled { OnOk result.1 (HasSettled J.first result.0) }
+        marked: Marked<J>,
+    ) -> (Self, Marked<J>, Result<(), Refusal>)
+        ensures settled { OnOk result.2 (HasSettled J.first result.0) }
+        ensures marked { OnOk result.2 (GoesOnLater marked result.0.kept.last) }
+        ensures mark { result.1 ≡ marked }
         ensures policy { result.0.policy ≡ self.policy }
         ensures failed { result.0.failed ≡ self.failed }
     {
@@ -228,17 +214,17 @@ impl<J: Naming, F: Appender + Drop> Settler<J, F> {
             enough,
             failed,
         } = self;
-        let (journaled, appended) = journaled.settle(rt, alloc, shared);
+        let (journaled, marked, appended) = journaled.settle(rt, alloc, shared, marked);
         let mut settler = Settler {
             journaled,
             enough,
             failed,
         };
         if appended.is_err() {
-            return (settler, appended);
+            return (settler, marked, appended);
         }
         let kept = settler.keep_by_policy();
-        (settler, kept)
+        (settler, marked, kept)
     }
 
     /// The same once more, on a fresh device, where it was refused so.
@@ -248,72 +234,54 @@ impl<J: Naming, F: Appender + Drop> Settler<J, F> {
         alloc: Global,
         shared: &Shared<J>,
         storage: &S,
+        marked: Marked<J>,
         refusal: Refusal,
-    ) -> (Self, Result<(), Failed>)
-        ensures settled { OnOk result.1 (HasSettled J.first result.0) }
+    ) -> (Self, Marked<J>, Result<(), Failed>)
+        ensures settled { OnOk result.2 (HasSettled J.first result.0) }
+        ensures marked { OnOk result.2 (GoesOnLater marked result.0.kept.last) }
+        ensures mark { result.1 ≡ marked }
         ensures policy { result.0.policy ≡ self.policy }
     {
         let mut settler = self;
         if settler.go_on_anew(alloc, storage, refusal).is_err() {
-            return (settler, Err(Failed));
+            return (settler, marked, Err(Failed));
         }
-        let (mut settler, appended) = settler.appended(rt, alloc, shared);
+        let (mut settler, marked, appended) = settler.appended(rt, alloc, shared, marked);
         if let Err(refusal) = appended {
             settler.failed = settler.failed || !may_pass(refusal);
-            return (settler, Err(Failed));
+            return (settler, marked, Err(Failed));
         }
-        (settler, Ok(()))
+        (settler, marked, Ok(()))
     }
 
     /// Hands on all changes that the session noted since, appends them, and keeps them where the policy is to keep
-    /// always. At Ok the journal has every change that was handed on. Where its device fails, it goes on on a fresh one
-    /// of the storage, once. It fails for want of memory, which may pass, and where that other device fails too, or has
-    /// no place: then for good. What was handed on and could not be appended is appended first the next time.
+    /// always. Nothing is handed on where all that was marked is. At Ok the journal has every change that was handed on,
+    /// and the session of the last hand-on goes on from the marked one. Where its device fails, it goes on on a fresh
+    /// one of the storage, once. It fails for want of memory, which may pass, and where that other device fails too, or
+    /// has no place: then for good. What was handed on and could not be appended is appended first the next time.
     pub fn settle<R: Wait, S: Storage<F>>(
         self,
         rt: &R,
         alloc: Global,
         shared: &Shared<J>,
         storage: &S,
-    ) -> (Self, Result<(), Failed>)
-        ensures settled { OnOk result.1 (HasSettled J.first result.0) }
+        marked: Marked<J>,
+    ) -> (Self, Marked<J>, Result<(), Failed>)
+        ensures settled { OnOk result.2 (HasSettled J.first result.0) }
+        ensures marked { OnOk result.2 (GoesOnLater marked result.0.kept.last) }
+        ensures mark { result.1 ≡ marked }
         ensures policy { result.0.policy ≡ self.policy }
-        ensures over { self.failed ≡ true → (result.0 ≡ self) × (is_err result.1 ≡ true) }
+        ensures over { self.failed ≡ true → (result.0 ≡ self) × (is_err result.2 ≡ true) }
     {
         if self.failed {
-            return (self, Err(Failed));
+            return (self, marked, Err(Failed));
         }
-        let (mut settler, appended) = self.appended(rt, alloc, shared);
+        let (mut settler, marked, appended) = self.appended(rt, alloc, shared, marked);
         if let Err(refusal) = appended {
-            return settler.settled_anew(rt, alloc, shared, storage, refusal);
+            return settler.settled_anew(rt, alloc, shared, storage, marked, refusal);
         }
         let settled = settler.compact_if_long(alloc, storage);
-        (settler, settled)
-    }
-
-    /// Whether the session of the last hand-on goes on from the marked one. All comes back as it was.
-    fn has_handed<R: Wait>(
-        self,
-        rt: &R,
-        shared: &Shared<J>,
-        marked: Marked<J>,
-    ) -> (Self, Marked<J>, bool)
-        ensures handed { result.2 ≡ true → GoesOnLater marked self.kept.last }
-        ensures same { result.0 ≡ self }
-        ensures mark { result.1 ≡ marked }
-    {
-        let Settler {
-            journaled,
-            enough,
-            failed,
-        } = self;
-        let (journaled, marked, has) = journaled.has_handed(rt, shared, marked);
-        let settler = Settler {
-            journaled,
-            enough,
-            failed,
-        };
-        (settler, marked, has)
+        (settler, marked, settled)
     }
 
     /// Assures a session from which that of the last hand-on goes on, where all is settled.
@@ -339,33 +307,8 @@ impl<J: Naming, F: Appender + Drop> Settler<J, F> {
         (settler, assured)
     }
 
-    /// Settles, and then assures the marked session, from which that of the hand-on goes on: the mark was made before.
-    fn settle_marked<R: Wait, S: Storage<F>>(
-        self,
-        rt: &R,
-        alloc: Global,
-        shared: &Shared<J>,
-        storage: &S,
-        marked: Marked<J>,
-    ) -> (Self, Result<Assured<J>, Failed>)
-        ensures settled { OnOk result.1 (HasSettled J.first result.0) }
-        ensures marked { OnOk result.1 (GoesOnLater marked result.0.kept.last) }
-        ensures assured { IfOk result.1 (λ assured. assured ≡ marked) }
-        ensures policy { result.0.policy ≡ self.policy }
-        ensures over { self.failed ≡ true → (result.0 ≡ self) × (is_err result.1 ≡ true) }
-    {
-        let (settler, settled) = self.settle(rt, alloc, shared, storage);
-        let (settler, marked, has) = settler.has_handed(rt, shared, marked);
-        if settled.is_err() || !has {
-            return (settler, Err(Failed));
-        }
-        let (settler, assured) = settler.assure(&marked);
-        (settler, Ok(assured))
-    }
-
-    /// Settles as [`Settler::settle`] does, where not all that was marked is settled. At Ok the session of the last
-    /// hand-on, which the journal ends at, goes on from the marked one, and the token says for good that the journal
-    /// assures that one ([`Settler::hears`]).
+    /// Settles as [`Settler::settle`] does. At Ok the session of the last hand-on, which the journal ends at, goes on from
+    /// the marked one, and the token says for good that the journal assures that one ([`Settler::hears`]).
     pub fn settle_up_to<R: Wait, S: Storage<F>>(
         self,
         rt: &R,
@@ -380,12 +323,9 @@ impl<J: Naming, F: Appender + Drop> Settler<J, F> {
         ensures policy { result.0.policy ≡ self.policy }
         ensures over { self.failed ≡ true → (result.0 ≡ self) × (is_err result.1 ≡ true) }
     {
-        if !self.has_settled() {
-            return self.settle_marked(rt, alloc, shared, storage, marked);
-        }
-        let (settler, marked, has) = self.has_handed(rt, shared, marked);
-        if !has {
-            return settler.settle_marked(rt, alloc, shared, storage, marked);
+        let (settler, marked, settled) = self.settle(rt, alloc, shared, storage, marked);
+        if settled.is_err() {
+            return (settler, Err(Failed));
         }
         let (settler, assured) = settler.assure(&marked);
         (settler, Ok(assured))

@@ -12,7 +12,7 @@ ghost use Rattle.sound_words.specs.Kept.{kept_of};
 ghost use Rattle.sound_words.specs.Order.{IsSurveyOf};
 ghost use Rattle.sound_words.specs.Sound.{AreSoundWordsIn, IsSoundIn};
 ghost use Rattle.migration.specs.Migrated.{migrated};
-ghost use Rattle.migration.specs.Words.{block_migrated, word_migrated};
+ghost use Rattle.migration.specs.Words.{words_migrated, word_migrated};
 
 use arena::{Form, GOT_CELL, Layout, Part, Place, block_size, item_part};
 use persist::KeptWords;
@@ -102,9 +102,7 @@ pub(crate) fn add_block<W: KeptWords>(
     words: &mut Vec<u64>,
 ) -> Result<(), AllocError>
     requires sound { AreSoundWordsIn OfValues layout.now (W.kept_words block.now) }
-    ensures { OnOk result (words.new.items ≡ words.old.items ++ block_migrated layout.now.kind
-        (record { clients = layout.now.clients; records = layout.now.records })
-        (W.kept_words block.now)) }
+    ensures { OnOk result (words.new.items ≡ words.old.items ++ words_migrated layout.now (W.kept_words block.now)) }
 {
     let Ok(survey) = surveyed(Form::OfValues, layout, block) else {
         // The words obey the rules.

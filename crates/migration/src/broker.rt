@@ -1,13 +1,9 @@
 //! The words of a broker of the form of items, from those of one of the form of values.
 
 ghost use Rattle.std.specs.Prelude.{◌≡◌, ◌++◌, ◌<◌, ◌≤◌, IfOk, IfSome, OnOk, length, replicate, take};
-ghost use Rattle.std.specs.List.{flat_map, range_with_len};
-ghost use Rattle.arena.specs.Broker.{block_in, broker_size_in};
-ghost use Rattle.arena.specs.Shape.{shape_of};
+ghost use Rattle.arena.specs.Broker.{broker_size_in};
 ghost use Rattle.arena.specs.declared.form.Form.TheVariants.{OfValues};
-ghost use Rattle.directory.specs.Sound.{counts_in};
-ghost use Rattle.sound_words.specs.Sound.{AreSoundWordsIn};
-ghost use Rattle.migration.specs.Words.{MayBeMigrated, broker_migrated, slot_block_migrated, slot_migrated};
+ghost use Rattle.migration.specs.Words.{HasSoundValues, MayBeMigrated, blocks_migrated, broker_migrated, old_block, slot_migrated};
 
 use crate::block::add_block;
 use arena::{BLOCKS_FROM, BrokerLayout, Form, SLOTS, SlotId};
@@ -37,10 +33,9 @@ fn add_slot(
     requires slot { slot.0 < SLOTS }
     requires room { broker_size_in OfValues layout.now ≤ length memory.now.words.cached }
     requires kept { broker_size_in OfValues layout.now ≤ length memory.now.words.kept }
-    requires sound { IfSome queue.now (λ queue. AreSoundWordsIn OfValues (shape_of queue.kind layout.now)
-        (block_in OfValues layout.now slot.0 memory.now.words.kept)) }
+    requires sound { IfSome queue.now (HasSoundValues layout.now slot.0 memory.now.words.kept) }
     ensures { OnOk result (words.new.items ≡ words.old.items
-        ++ slot_migrated layout.now queue.now (block_in OfValues layout.now slot.0 memory.now.words.kept)) }
+        ++ slot_migrated layout.now queue.now (old_block layout.now slot.0 memory.now.words.kept)) }
 {
     let Some(queue) = queue else {
         return add_zeros(layout.block_size(), words);
@@ -70,9 +65,7 @@ fn add_front(memory: &Memory, words: &mut Vec<u64>) -> Result<(), AllocError>
 /// Adds the words of all blocks, in the order of the slots.
 fn add_blocks(kept: &KeptBroker, memory: &Memory, words: &mut Vec<u64>) -> Result<(), AllocError>
     requires sound { MayBeMigrated memory.now.words kept.now.layout kept.now.directory }
-    ensures { OnOk result (words.new.items ≡ words.old.items
-        ++ flat_map (slot_block_migrated (counts_in memory.now.words.kept) memory.now.words.kept)
-        (range_with_len 0 SLOTS)) }
+    ensures { OnOk result (words.new.items ≡ words.old.items ++ blocks_migrated memory.now.words.kept) }
 {
     let places = kept.directory.queues();
     for slot in 0..SLOTS {

@@ -3,11 +3,11 @@
 ghost use Rattle.std.specs.Prelude.{◌≡◌, ℕ, ◌<◌, List};
 ghost use Rattle.arena.specs.Broker.{block_in};
 ghost use Rattle.arena.specs.Content.{content_in, kept_content};
-ghost use Rattle.arena.specs.Shape.{Counts, Shape, shape_of};
+ghost use Rattle.arena.specs.Shape.{Shape};
 ghost use Rattle.arena.specs.declared.broker.TheConstants.{SLOTS};
 ghost use Rattle.arena.specs.declared.form.Form.TheVariants.{OfItems, OfValues};
 ghost use Rattle.arena.specs.declared.place.Place.{Place};
-ghost use Rattle.directory.specs.Queue.{directory_of, slot_in};
+ghost use Rattle.directory.specs.Queue.{directory_of};
 ghost use Rattle.directory.specs.Sound.{AreBrokerWords, AreBrokerWordsIn, HeadIsSoundIn, counts_in};
 ghost use Rattle.directory.specs.declared.queue.Queue.{Queue};
 ghost use Rattle.sound_words.specs.Sound.{AreSoundWordsIn, IsSound, IsSoundIn};
@@ -16,11 +16,11 @@ ghost use Rattle.migration.specs.Migrated.{migrated};
 ghost use Rattle.migration.specs.Words.{
   HasSoundQueue,
   HaveQueueOf,
-  block_migrated,
+  StillHasQueue,
   broker_migrated,
-  slot_migrated,
+  slot_block_migrated,
+  words_migrated,
 };
-ghost use Rattle.words.specs.declared.call.Kind.{Kind};
 
 /// Migrated words obey every rule where the old ones do. What they hold, and what they tell each client, is what the
 /// old ones held and told, whether these obey the rules or not.
@@ -33,8 +33,8 @@ pub fn migrated_words_tell_the_same()
 /// A migrated block of words has the queue that the old words have: it obeys every rule, holds what they hold, and
 /// tells each client what they tell.
 pub fn migrated_block_has_the_queue()
-    ensures same { (kind : Kind) (c : Counts) (old : List ℕ) → AreSoundWordsIn OfValues (shape_of kind c) old
-        → HaveQueueOf (shape_of kind c) old (block_migrated kind c old) }
+    ensures same { (s : Shape) (old : List ℕ) → AreSoundWordsIn OfValues s old
+        → HaveQueueOf s old (words_migrated s old) }
 {}
 
 /// A migrated broker has as many clients and records, and the same names and kinds in its slots. The block of each
@@ -45,12 +45,11 @@ pub fn migrated_broker_has_the_slots()
     ensures slots { (ws : List ℕ) → HeadIsSoundIn OfValues ws → directory_of (broker_migrated ws) ≡ directory_of ws }
     ensures blocks { (ws : List ℕ) (slot : ℕ) → HeadIsSoundIn OfValues ws → slot < SLOTS
         → block_in OfItems (counts_in ws) slot (broker_migrated ws)
-        ≡ slot_migrated (counts_in ws) (slot_in ws slot) (block_in OfValues (counts_in ws) slot ws) }
+        ≡ slot_block_migrated (counts_in ws) ws slot }
 {}
 
 /// Each queue of a broker whose words were sound is there in the migrated broker, with all that it holds and tells.
 pub fn migrated_broker_has_the_queues()
     ensures same { (ws : List ℕ) (slot : ℕ) (queue : Queue) → HeadIsSoundIn OfValues ws → HasSoundQueue ws slot queue
-        → HaveQueueOf (shape_of queue.kind (counts_in ws)) (block_in OfValues (counts_in ws) slot ws)
-        (block_in OfItems (counts_in ws) slot (broker_migrated ws)) }
+        → StillHasQueue ws slot queue }
 {}

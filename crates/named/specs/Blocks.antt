@@ -6,9 +6,11 @@ use Rattle.words.specs.declared.limits.TheConstants.{QUEUE_PORTS}
 use Rattle.words.specs.declared.refusal.Refusal.{Refusal}
 use Rattle.persist.specs.Memory.{MemoryState, Request, Words, IsSameOutside, asked_through, seen_in, words_in}
 use Rattle.persist.specs.declared.memory.TheConstants.{PORTS}
+use Rattle.arena.specs.Shape.{Shape}
 use Rattle.interleave.specs.Asked.{AreAsked}
 use Rattle.interleave.specs.Core.{CoreState, roomy_over, state_of}
 use Rattle.interleave.specs.Holds.{Holds}
+use Rattle.interleave.specs.Ranges.{AreUnused}
 use Rattle.interleave.specs.Rules.{Rule, IsByAlone, IsByRule}
 use Rattle.interleave.specs.State.{State}
 use Rattle.interleave.specs.Trace.{Roomy}
@@ -33,6 +35,12 @@ pub record IsWellIn (ws : Words) (block : BlockState) : Type 0 where
   pub inside : block.from + block.len ≤ length ws.cached
   pub ports : block.port + QUEUE_PORTS ≤ PORTS
   pub holds : Holds (state_in ws block)
+
+-- so it is over all words where the block is of the memory, with ports that there are, and nobody used it
+abbrev pub IsWellWhereUnused : Shape → ℕ → ℕ → ℕ → BlockState → Type 0
+IsWellWhereUnused s from len port block =
+    (ws : Words) → 1 ≤ len → from + len ≤ length ws.cached → port + QUEUE_PORTS ≤ PORTS
+    → AreUnused s (words_in from len ws) → IsWellIn ws block
 
 -- two memories have the same values, after as many accesses
 pub record IsSameWords (old new : Words) : Type 0 where

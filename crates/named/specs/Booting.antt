@@ -64,10 +64,14 @@ IsBlockDamaged = IsBlockDamagedIn running
 abbrev pub MayRefuse : List ℕ → Refusal → Type 0
 MayRefuse = MayRefuseIn running
 
+-- the world that begins on the kept words of a slot's block, with a queue of this kind
+abbrev pub block_booted : Counts → Kind → ℕ → Words → State
+block_booted c kind slot ws = booted_world (shape_of kind c) (block_words c slot ws)
+
 -- the world of an open slot begins on the words of its block
 abbrev pub world_booted : Counts → ℕ → Words → Option Queue → Option State
 world_booted c slot ws None = None
-world_booted c slot ws (Some queue) = Some (booted_world (shape_of queue.kind c) (block_words c slot ws))
+world_booted c slot ws (Some queue) = Some (block_booted c queue.kind slot ws)
 
 -- what a broker read of kept words, as a crash left them: they are a broker's, with these counts and this directory
 pub record AreReadIn (form : Form) (ws : Words) (counts : Counts) (directory : Directory) : Type 0 where
@@ -89,13 +93,18 @@ pub record AreKept (ws : Words) (counts : Counts) (directory : Directory) : Type
 -- the slot has a queue of this kind that begins on the words of its block
 pub record IsQueueBooted (c : Counts) (ws : Words) (at : ℕ) (kind : Kind) (slot : Slot) : Type 0 where
   pub kind_is : kind_in slot ≡ Some kind
-  pub world : world_in (words_after_crash ws) slot ≡ Some (booted_world (shape_of kind c) (block_words c at ws))
+  pub world : world_in (words_after_crash ws) slot ≡ Some (block_booted c kind at ws)
   pub here : IsSlotAt c (words_after_crash ws) at slot
 
 -- so has one that has a queue in the directory; any other is closed
 abbrev pub IsSlotBooted : Counts → Words → ℕ → Option Queue → Slot → Type 0
 IsSlotBooted c ws at None slot = slot ≡ Closed
 IsSlotBooted c ws at (Some queue) slot = IsQueueBooted c ws at queue.kind slot
+
+-- which of both it is, the directory says
+abbrev pub IsBootedBy : Counts → Words → Directory → ℕ → Slot → Type 0
+IsBootedBy c ws directory at slot =
+    (place : Option Queue) → slice_get directory at ≡ Some place → IsSlotBooted c ws at place slot
 
 pub record AreSlotsBooted (c : Counts) (ws : Words) (directory : Directory) (slots : List Slot) : Type 0 where
   pub count : length slots ≡ SLOTS

@@ -1,5 +1,5 @@
 -- A broker: one memory, and eight slots in it.
-use Rattle.std.specs.Prelude.{◌≡◌, ℕ, ◌+◌, ◌*◌, ◌<◌, ◌≤◌, ◌⊎◌, Bool, true, false, ◌&&◌, not, IsSome, is_some, is_ok, List, Ok, Option, Some, None, Result, Err, length, replicate, slice_get, slice_set, nat_lt, if◌then◌else◌}
+use Rattle.std.specs.Prelude.{◌≡◌, ◌≢◌, ℕ, ◌+◌, ◌*◌, ◌<◌, ◌≤◌, ◌⊎◌, Bool, true, false, ◌&&◌, not, IfOk, IfSome, IsSome, is_some, is_ok, List, Ok, Option, Some, None, Result, Err, length, replicate, slice_get, slice_set, nat_lt, if◌then◌else◌}
 use Rattle.std.specs.Option.{option_map}
 use Rattle.words.specs.declared.call.Client.{Client}
 use Rattle.words.specs.declared.call.Kind.{Kind}
@@ -14,7 +14,7 @@ use Rattle.arena.specs.declared.broker.SlotId.{SlotId}
 use Rattle.stepper.specs.declared.resume.After.{After}
 use Rattle.stepper.specs.declared.resume.After.TheVariants.{More, Done}
 use Rattle.arena.specs.declared.broker.TheConstants.{SLOTS}
-use Rattle.directory.specs.Creation.{access_of, new_creation}
+use Rattle.directory.specs.Creation.{access_of, new_creation, successor}
 use Rattle.directory.specs.Directory.{Directory, IsDirectory, HasName, HasQueue, IsFree, IsLowestFree}
 use Rattle.directory.specs.Name.{IsName}
 use Rattle.directory.specs.Step.{after_one}
@@ -99,6 +99,10 @@ pub record IsUnusedBlock (c : Counts) (ws : Words) (slot : ℕ) : Type 0 where
   pub cached : (block_words c slot ws).cached ≡ replicate (block_size_of c.clients c.records) 0
   pub kept : (block_words c slot ws).kept ≡ replicate (block_size_of c.clients c.records) 0
 
+-- the world that begins on them, with a queue of this kind
+abbrev pub block_world : Counts → Kind → ℕ → Words → State
+block_world c kind slot ws = world_over (shape_of kind c) (block_words c slot ws)
+
 -- the queue lies in the slot's block, acts through the slot's ports, is laid out as the broker's counts say, and its
 -- world holds there
 pub record IsInBlock (c : Counts) (ws : Words) (slot : ℕ) (block : BlockState) : Type 0 where
@@ -112,6 +116,11 @@ pub record IsInBlock (c : Counts) (ws : Words) (slot : ℕ) (block : BlockState)
 abbrev pub IsSlotAt : Counts → Words → ℕ → Slot → Type 0
 IsSlotAt c ws at Closed = IsUnusedBlock c ws at
 IsSlotAt c ws at (Open block) = IsInBlock c ws at block
+
+-- so it is over all words of a broker's memory in which its block is unused
+abbrev pub IsSlotWhereUnused : Counts → ℕ → Slot → Type 0
+IsSlotWhereUnused c at slot =
+    (ws : Words) → broker_size c ≤ length ws.cached → IsUnusedBlock c ws at → IsSlotAt c ws at slot
 
 -- the memory's directory is this one, or a creation is under way that will bring a queue of a new name into it
 pub record IsCreating (ws : Words) (creation : Creation) (directory : Directory) : Type 0 where
@@ -222,8 +231,7 @@ pub record IsOpened (old new : Brokered) (creation : Creation) (slot : SlotId) :
   pub words : new.words ≡ words_created old creation
   pub ended : new.creation ≡ None
   pub directory : new.directory ≡ slice_set old.directory slot.0 (Some creation.queue)
-  pub world : world_at new slot.0
-      ≡ Some (world_over (shape_of creation.queue.kind old.counts) (block_words old.counts slot.0 new.words))
+  pub world : world_at new slot.0 ≡ Some (block_world old.counts creation.queue.kind slot.0 new.words)
   pub rooms : (at : ℕ) → room_at old at ≤ room_at new at
 
 -- what a step of a creation comes to, and what it answers
@@ -232,6 +240,18 @@ abbrev pub IsStepCreated
 IsStepCreated old new creation result (More next) =
     (result ≡ Ok None) × (new ≡ record old { words = words_created old creation; creation = Some next })
 IsStepCreated old new creation result (Done slot) = (result ≡ Ok (Some slot)) × IsOpened old new creation slot
+
+-- what a step makes of the creation that is under way, if one is and the broker is ready
+abbrev pub IsCreationStep : Brokered → Brokered → Result (Option SlotId) Refusal → Type 0
+IsCreationStep old new result =
+    old.recovery ≡ None
+    → IfSome old.creation (λ creation. IsStepCreated old new creation result (successor creation))
+
+-- but for the slot that it opened, the worlds are as they were, save the count of accesses
+abbrev pub AreUnopenedQuiet : Brokered → Brokered → Result (Option SlotId) Refusal → Type 0
+AreUnopenedQuiet old new result =
+    (other : ℕ) → IfOk result (λ opened. IfSome opened (λ slot. other ≢ slot.0))
+    → quiet (world_at new other) ≡ quiet (world_at old other)
 
 -- the words of a new broker: the head's two, and zeros behind them
 abbrev pub new_words : Counts → List ℕ

@@ -67,12 +67,16 @@ pub record IsRenewed (old : List ℕ) (to : Counts) (b : Brokered) : Type 0 wher
 abbrev pub AllFit : List ℕ → Counts → Type 0
 AllFit old to = (slot : ℕ) → slot < SLOTS → BlockFits to old slot
 
+-- these are counts for it, and the items of some queue do not fit
+abbrev pub DoesNotFit : List ℕ → Counts → Type 0
+DoesNotFit old to = AreCountsFor old to × (AllFit old to → ⊥)
+
 -- why it does not begin so, the first reason that applies
 abbrev pub IsWhyUnrenewed : List ℕ → Counts → Refusal → Type 0
 IsWhyUnrenewed old to BadClients = (to.clients < (counts_in old).clients) ⊎ (MAX_CLIENTS < to.clients)
 IsWhyUnrenewed old to BadRecords = ((counts_in old).clients ≤ to.clients) × (to.clients ≤ MAX_CLIENTS)
     × ((to.records ≡ 0) ⊎ (MAX_RECORDS < to.records))
-IsWhyUnrenewed old to NoRoom = AreCountsFor old to × (AllFit old to → ⊥)
+IsWhyUnrenewed old to NoRoom = DoesNotFit old to
 IsWhyUnrenewed old to NoMemory = AreCountsFor old to
 IsWhyUnrenewed old to _ = ⊥
 

@@ -4,7 +4,7 @@ use Rattle.words.specs.declared.call.Kind.{Kind}
 use Rattle.words.specs.declared.refusal.Refusal.{Refusal}
 use Rattle.words.specs.declared.refusal.Refusal.TheVariants.{AlreadyReady}
 use Rattle.persist.specs.Memory.{Words, words_after_crash}
-use Rattle.arena.specs.Shape.{shape_of}
+use Rattle.arena.specs.Shape.{Counts}
 use Rattle.arena.specs.declared.broker.SlotId.{SlotId}
 use Rattle.stepper.specs.declared.resume.After.{After}
 use Rattle.stepper.specs.declared.resume.After.TheVariants.{More, Done}
@@ -16,11 +16,11 @@ use Rattle.directory.specs.declared.queue.Queue.{Queue}
 use Rattle.directory.specs.declared.recovery.DirectoryRecovery.{DirectoryRecovery}
 use Rattle.directory.specs.declared.recovery.Recovered.{Recovered}
 use Rattle.interleave.specs.Calls.{is_no_memory}
-use Rattle.interleave.specs.State.{State, after_stop, after_recover, recover_result, world_over}
+use Rattle.interleave.specs.State.{State, after_stop, after_recover, recover_result}
 use Rattle.recover.specs.Table.{boot_recovery as queue_recovery}
 use Rattle.named.specs.Slots.{acted, answered}
 use Rattle.directory.specs.UnderWay.{HaveSameDirectory, IsAtRest}
-use Rattle.named.specs.Brokers.{Brokered, IsReading, block_words, quiet, room_at, world_at}
+use Rattle.named.specs.Brokers.{Brokered, IsReading, block_world, quiet, room_at, world_at}
 use Rattle.named.specs.declared.recovery.BrokerRecovery.{BrokerRecovery}
 use Rattle.named.specs.declared.recovery.BrokerRecovery.TheVariants.{ReadDirectory, RecoverQueue}
 
@@ -71,9 +71,11 @@ abbrev pub found_by : Brokered → DirectoryRecovery → Recovered
 found_by b at = recovered at (value_found b.counts (access_of at) b.words)
 
 -- the world of a queue that recovery is the first to find: nobody called yet, and its recovery is to come
+abbrev pub recovering_world : Counts → Kind → ℕ → Words → State
+recovering_world c kind slot ws = record (block_world c kind slot ws) { recovery = Some queue_recovery }
+
 abbrev pub found_world : Brokered → Kind → ℕ → Words → State
-found_world b kind slot ws =
-    record (world_over (shape_of kind b.counts) (block_words b.counts slot ws)) { recovery = Some queue_recovery }
+found_world b kind slot ws = recovering_world b.counts kind slot ws
 
 -- a slot whose gate was found open and that was closed is that of the creation which a crash dropped, and is opened
 pub record IsFoundFirst (old new : Brokered) (slot : SlotId) : Type 0 where

@@ -10,12 +10,11 @@ ghost use Rattle.sound_words.specs.Sound.{AreSoundWords};
 ghost use Rattle.recover.specs.Table.{boot_recovery};
 ghost use Rattle.interleave.specs.Booted.{booted_world};
 ghost use Rattle.interleave.specs.Queue.{told_in, told_to};
-ghost use Rattle.interleave.specs.Ranges.{AreUnused};
 ghost use Rattle.interleave.specs.Rotation.{after_rotation, rotate_result, some_client_calls};
 ghost use Rattle.interleave.specs.Rules.{recovering, starting, stepping};
 ghost use Rattle.interleave.specs.State.{world_over, after_evict, after_stop, kept_content};
 ghost use Rattle.interleave.specs.Verdicts.{number_under_way};
-ghost use Rattle.named.specs.Blocks.{state_in, IsActIn, IsAloneIn, IsAskedIn, IsSameWords, IsWellIn, IsWithinBlock, LieInOnePlace};
+ghost use Rattle.named.specs.Blocks.{state_in, IsActIn, IsAloneIn, IsAskedIn, IsSameWords, IsWellIn, IsWellWhereUnused, IsWithinBlock, LieInOnePlace};
 
 use arena::Layout;
 use events::{History, Order};
@@ -74,8 +73,7 @@ impl Block {
     /// A new queue in a block that is all zero. It takes no memory.
     pub(crate) fn new(alloc: Global, layout: Layout, from: usize, len: usize, port: usize) -> Self
         ensures state { (ws : Words) → state_in ws result ≡ world_over layout (words_in from len ws) }
-        ensures well { (ws : Words) → 1 ≤ len → from + len ≤ length ws.cached
-            → port + QUEUE_PORTS ≤ PORTS → AreUnused layout (words_in from len ws) → IsWellIn ws result }
+        ensures well { IsWellWhereUnused layout from len port result }
         ensures from { result.from ≡ from }
         ensures len { result.len ≡ len }
         ensures port { result.port ≡ port }
@@ -132,8 +130,7 @@ impl Block {
     ) -> Self
         ensures state { (ws : Words) → state_in ws result
             ≡ record (world_over layout (words_in from len ws)) { recovery = Some boot_recovery } }
-        ensures well { (ws : Words) → 1 ≤ len → from + len ≤ length ws.cached
-            → port + QUEUE_PORTS ≤ PORTS → AreUnused layout (words_in from len ws) → IsWellIn ws result }
+        ensures well { IsWellWhereUnused layout from len port result }
         ensures from { result.from ≡ from }
         ensures len { result.len ≡ len }
         ensures port { result.port ≡ port }

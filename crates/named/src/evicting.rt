@@ -3,9 +3,8 @@
 ghost use Rattle.std.specs.Prelude.{◌≡◌, ◌≢◌, ◌↔◌, ◌⊎◌, ◌<◌, ◌≤◌, ◌+◌, ℕ, true, length, replicate, slice_set, Ok, Err, IfOk, IfErr, OnOk, OnErr, IfSome, IfNone, IsSome, None, MatchOption, if◌then◌else◌};
 ghost use Rattle.persist.specs.Memory.{words_after_eviction};
 ghost use Rattle.named.specs.Blocks.{IsSameWords};
-ghost use Rattle.named.specs.Slots.{acted};
-ghost use Rattle.named.specs.Brokers.{world_at, room_at};
-ghost use Rattle.named.specs.Evicting.{world_evicted, evict_result, IsInBlockOf, IsInNoBlock};
+ghost use Rattle.named.specs.Brokers.{room_at};
+ghost use Rattle.named.specs.Evicting.{evict_result, AreWorldsEvicted, IsInBlockOf, IsInNoBlock};
 ghost use Rattle.named.specs.GoingOn.{IsDowntime};
 ghost use Rattle.named.specs.Lasting.{steps_left};
 ghost use Rattle.named.specs.Promises.{KeepsPromises};
@@ -34,8 +33,7 @@ impl Broker {
     pub fn evict(&mut self, word: usize) -> Result<Option<Change>, Refusal>
         ensures result { result ≡ evict_result self.old word }
         ensures words { IsSameWords (words_after_eviction word self.old.words) self.new.words }
-        ensures worlds { (slot : ℕ)
-            → world_at self.new slot ≡ acted (world_evicted self.old.counts slot word) (world_at self.old slot) }
+        ensures worlds { AreWorldsEvicted self.old self.new word }
         ensures same { self.new ≡ record self.old { words = self.new.words; slots = self.new.slots } }
         ensures room { (slot : ℕ) → room_at self.new slot ≡ room_at self.old slot }
         ensures left { steps_left self.new ≡ steps_left self.old }

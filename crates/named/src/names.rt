@@ -8,7 +8,7 @@ ghost use Rattle.persist.specs.Noted.{answer_in, change_in, IsNoted};
 ghost use Rattle.arena.specs.Broker.{broker_size};
 ghost use Rattle.directory.specs.Creation.{access_of, successor, IsNextAskedFor};
 ghost use Rattle.directory.specs.Step.{after_one, change_by, IsAskedFor};
-ghost use Rattle.named.specs.Brokers.{is_creating, is_down, world_at, quiet, IsBegun, IsNotCreated, MayCreate, IsStepCreated};
+ghost use Rattle.named.specs.Brokers.{is_creating, is_down, world_at, AreUnopenedQuiet, IsBegun, IsCreationStep, IsNotCreated, MayCreate};
 ghost use Rattle.named.specs.GoingOn.{BrokerGoesOn};
 ghost use Rattle.named.specs.Promises.{KeepsPromises};
 
@@ -128,10 +128,8 @@ impl Broker {
         ensures down { is_down self.old ≡ true → result ≡ Err Refusal.NotReady }
         ensures idle { self.old.recovery ≡ None → self.old.creation ≡ None → result ≡ Err Refusal.Idle }
         ensures same { OnErr result (self.new ≡ self.old) }
-        ensures step { self.old.recovery ≡ None → IfSome self.old.creation
-            (λ creation. IsStepCreated self.old self.new creation result (successor creation)) }
-        ensures others { (other : ℕ) → IfOk result (λ opened. IfSome opened (λ slot. other ≢ slot.0))
-            → quiet (world_at self.new other) ≡ quiet (world_at self.old other) }
+        ensures step { IsCreationStep self.old self.new result }
+        ensures others { AreUnopenedQuiet self.old self.new result }
         ensures goes_on { BrokerGoesOn self.old self.new }
         ensures promises { KeepsPromises self.new }
     {
@@ -143,10 +141,8 @@ impl Broker {
         ensures down { is_down self.old ≡ true → answer_in result ≡ Err Refusal.NotReady }
         ensures idle { self.old.recovery ≡ None → self.old.creation ≡ None → answer_in result ≡ Err Refusal.Idle }
         ensures same { OnErr (answer_in result) (self.new ≡ self.old) }
-        ensures step { self.old.recovery ≡ None → IfSome self.old.creation
-            (λ creation. IsStepCreated self.old self.new creation (answer_in result) (successor creation)) }
-        ensures others { (other : ℕ) → IfOk (answer_in result) (λ opened. IfSome opened (λ slot. other ≢ slot.0))
-            → quiet (world_at self.new other) ≡ quiet (world_at self.old other) }
+        ensures step { IsCreationStep self.old self.new (answer_in result) }
+        ensures others { AreUnopenedQuiet self.old self.new (answer_in result) }
         ensures noted { IsNoted (change_in result) self.old.words.kept self.new.words.kept }
         ensures goes_on { BrokerGoesOn self.old self.new }
         ensures promises { KeepsPromises self.new }

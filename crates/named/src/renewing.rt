@@ -2,7 +2,7 @@
 
 ghost use Rattle.std.specs.Prelude.{◌≡◌, ◌≤◌, ◌<◌, ℕ, Err, IfErr, IfOk, OnErr, OnOk};
 ghost use Rattle.named.specs.Promises.{KeepsPromises};
-ghost use Rattle.named.specs.Renewing.{AllFit, AreCountsFor, HasRoomInEach, IsAnewFor, IsRenewed, IsRenewedAt, IsWhyNotRenewedAt, IsWhyUnrenewed, MayRenew};
+ghost use Rattle.named.specs.Renewing.{DoesNotFit, HasRoomInEach, IsAnewFor, IsRenewed, IsRenewedAt, IsWhyNotRenewedAt, IsWhyUnrenewed, MayRenew};
 ghost use Rattle.notes.specs.Noting.{HasNoted};
 
 use crate::broker::Broker;
@@ -35,8 +35,7 @@ impl Broker {
         ensures renewed { IfOk result (IsRenewed self.words.kept (record { clients = clients; records = records })) }
         ensures errors { IfErr result
             (IsWhyUnrenewed self.words.kept (record { clients = clients; records = records })) }
-        ensures no_room { AreCountsFor self.words.kept (record { clients = clients; records = records })
-            → (AllFit self.words.kept (record { clients = clients; records = records }) → ⊥)
+        ensures no_room { DoesNotFit self.words.kept (record { clients = clients; records = records })
             → result ≡ Err Refusal.NoRoom }
         ensures promises { IfOk result KeepsPromises }
     {

@@ -8,15 +8,15 @@ ghost use Rattle.persist.specs.Noted.{answer_in, change_in, IsNoted};
 ghost use Rattle.persist.specs.declared.memory.TheConstants.{PORTS};
 ghost use Rattle.persist.specs.Memory.{Words, words_after_crash, words_after_eviction};
 ghost use Rattle.sound_words.specs.Sound.{AreSoundWords};
-ghost use Rattle.recover.specs.Table.{boot_recovery};
-ghost use Rattle.interleave.specs.Booted.{booted_world};
 ghost use Rattle.interleave.specs.Calls.{is_no_memory};
 ghost use Rattle.interleave.specs.Rules.{starting, stepping};
-ghost use Rattle.interleave.specs.State.{after_stop, after_recover, recover_result, world_over};
+ghost use Rattle.interleave.specs.State.{after_stop, after_recover, recover_result};
 ghost use Rattle.named.specs.Blocks.{IsSameWords};
-ghost use Rattle.named.specs.Brokers.{IsSlotAt, IsUnusedBlock, block_words};
+ghost use Rattle.named.specs.Booting.{block_booted};
+ghost use Rattle.named.specs.Brokers.{IsSlotAt, IsSlotWhereUnused, block_words, block_world};
 ghost use Rattle.named.specs.Each.{HasMoreRoom};
 ghost use Rattle.named.specs.Rotating.{has_calls_in, IsBaseIn, IsBegunAnew, IsQuietIn};
+ghost use Rattle.named.specs.Stopping.{recovering_world};
 ghost use Rattle.named.specs.declared.slot.Slot.TheVariants.{Closed, Open};
 ghost use Rattle.named.specs.Slots.{acted, answered, kind_in, room_in, world_evicted_in, world_in, AreEffectsFew, AskAlikeBesideSlot, HasRoomFor, IsAsReady, IsEvictedOutside, IsReadyIn, IsActInSlot, IsAloneInSlot, IsSameOutsideSlot, IsSameSlot, IsSlotAsked, IsSlotWell, IsWhyUnread, IsWithinSlot, IsWordOf};
 
@@ -138,10 +138,8 @@ impl Slot {
         requires { slot.0 < SLOTS }
         ensures kind { kind_in result ≡ Some kind }
         ensures ready { IsReadyIn true result }
-        ensures world { (ws : Words) → world_in ws result
-            ≡ Some (world_over (shape_of kind layout.now) (block_words layout.now slot.0 ws)) }
-        ensures at { (ws : Words) → broker_size layout.now ≤ length ws.cached
-            → IsUnusedBlock layout.now ws slot.0 → IsSlotAt layout.now ws slot.0 result }
+        ensures world { (ws : Words) → world_in ws result ≡ Some (block_world layout.now kind slot.0 ws) }
+        ensures at { IsSlotWhereUnused layout.now slot.0 result }
     {
         let from = layout.block(slot);
         let len = layout.block_size();
@@ -155,10 +153,8 @@ impl Slot {
         requires { slot.0 < SLOTS }
         ensures kind { kind_in result ≡ Some kind }
         ensures down { IsReadyIn false result }
-        ensures world { (ws : Words) → world_in ws result ≡ Some (record (world_over (shape_of kind layout.now)
-            (block_words layout.now slot.0 ws)) { recovery = Some boot_recovery }) }
-        ensures at { (ws : Words) → broker_size layout.now ≤ length ws.cached
-            → IsUnusedBlock layout.now ws slot.0 → IsSlotAt layout.now ws slot.0 result }
+        ensures world { (ws : Words) → world_in ws result ≡ Some (recovering_world layout.now kind slot.0 ws) }
+        ensures at { IsSlotWhereUnused layout.now slot.0 result }
     {
         let from = layout.block(slot);
         let len = layout.block_size();
@@ -182,7 +178,7 @@ impl Slot {
             (block_words layout.now slot.0 memory.now.words).kept }
         ensures kind { IfOk result (λ s. kind_in s ≡ Some kind) }
         ensures world { IfOk result (λ s. world_in (words_after_crash memory.now.words) s
-            ≡ Some (booted_world (shape_of kind layout.now) (block_words layout.now slot.0 memory.now.words))) }
+            ≡ Some (block_booted layout.now kind slot.0 memory.now.words)) }
         ensures at { IfOk result (IsSlotAt layout.now (words_after_crash memory.now.words) slot.0) }
         ensures errors { IfErr result (λ e. e ≡ Refusal.NoMemory) }
     {

@@ -1,10 +1,9 @@
 //! The slots of a broker, one after the other.
 
-ghost use Rattle.std.specs.Prelude.{◌≡◌, ◌<◌, ◌≤◌, ◌+◌, ℕ, length, map, replicate, slice_get, Option, IfOk, IfErr, OnOk, OnErr, Some};
+ghost use Rattle.std.specs.Prelude.{◌≡◌, ◌<◌, ◌≤◌, ◌+◌, ℕ, length, map, replicate, IfOk, IfErr, OnOk, OnErr};
 ghost use Rattle.std.specs.List.{list_any};
 ghost use Rattle.persist.specs.Memory.{Words, words_after_crash};
-ghost use Rattle.directory.specs.declared.queue.Queue.{Queue as Place};
-ghost use Rattle.named.specs.Booting.{AreBootWords, AreKept, AreSlotsBooted, IsSlotBooted};
+ghost use Rattle.named.specs.Booting.{AreBootWords, AreKept, AreSlotsBooted, IsBootedBy};
 ghost use Rattle.named.specs.Each.{EachBecame, EachSlot, HasFullSlot, HasMoreRoom, HasStopped};
 ghost use Rattle.named.specs.Slots.{AreEffectsFew, HasRoomFor};
 ghost use Rattle.named.specs.Rotating.{has_calls_in, AreBases, AreBegunAnew, AreQuiet};
@@ -48,8 +47,7 @@ fn boot_slot(
     requires slot { slot.0 < SLOTS }
     requires kept { AreKept memory.now.words kept.now.layout kept.now.directory }
     requires sound { AreBootWords memory.now.words.kept }
-    ensures booted { IfOk result (λ s. (place : Option Place) → slice_get kept.now.directory slot.0 ≡ Some place
-        → IsSlotBooted kept.now.layout memory.now.words slot.0 place s) }
+    ensures booted { IfOk result (IsBootedBy kept.now.layout memory.now.words kept.now.directory slot.0) }
     ensures errors { IfErr result (λ e. e ≡ Refusal.NoMemory) }
 {
     match &kept.directory.queues()[slot.0 as usize] {

@@ -1,6 +1,7 @@
 -- Notes of changes of kept words: what changes make of words, and what an act adds to the notes.
 use Rattle.std.specs.Prelude.{◌≡◌, ◌<◌, ◌++◌, ℕ, List, length, All}
 use Rattle.persist.specs.declared.access.Change.{Change}
+use Rattle.persist.specs.Memory.{overwritten}
 use Rattle.persist.specs.Noted.{applied}
 
 -- the changes that were noted and not handed out yet, and how many more there is room for, as was promised
@@ -18,3 +19,7 @@ pub record HasNoted (old new : List Change) (was now : List ℕ) : Type 0 where
   pub more : List Change
   pub behind : new ≡ old ++ more
   pub made : IsMadeBy more was now
+
+-- so they have where these words were written over others, from one of them on
+abbrev pub HasNotedWritten : List Change → List Change → ℕ → List ℕ → List ℕ → Type 0
+HasNotedWritten old new from written words = HasNoted old new words (overwritten from written words)

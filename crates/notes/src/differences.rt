@@ -1,8 +1,7 @@
 //! The changes that other words make, written over a part of a memory's kept words.
 
 ghost use Rattle.std.specs.Prelude.{◌≡◌, ◌≤◌, ◌+◌, length, take, true, vec_capacity, vec_len};
-ghost use Rattle.persist.specs.Memory.{overwritten};
-ghost use Rattle.notes.specs.Noting.{HasNoted};
+ghost use Rattle.notes.specs.Noting.{HasNotedWritten};
 
 use persist::{Change, KeptWords, Memory};
 
@@ -15,8 +14,8 @@ pub(crate) fn add_differences<W: KeptWords>(
     changes: &mut Vec<Change>,
 ) -> bool
     requires { from + length (W.kept_words words.now) ≤ length memory.now.words.kept }
-    ensures noted { result ≡ true → HasNoted changes.old.items changes.new.items memory.now.words.kept
-        (overwritten from (W.kept_words words.now) memory.now.words.kept) }
+    ensures noted { result ≡ true → HasNotedWritten changes.old.items changes.new.items
+        from (W.kept_words words.now) memory.now.words.kept }
     ensures before { take (vec_len changes.old) changes.new.items ≡ changes.old.items }
     ensures capacity { vec_capacity changes.old ≤ vec_capacity changes.new }
 {

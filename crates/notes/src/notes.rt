@@ -1,9 +1,8 @@
 //! Notes.
 
 ghost use Rattle.std.specs.Prelude.{◌≡◌, ◌≤◌, ◌+◌, ◌++◌, [], false, length, true, IfOk, OnErr, OnOk};
-ghost use Rattle.persist.specs.Memory.{overwritten};
 ghost use Rattle.persist.specs.Noted.{changes_in};
-ghost use Rattle.notes.specs.Noting.{HasNoted};
+ghost use Rattle.notes.specs.Noting.{HasNotedWritten};
 
 use crate::differences::add_differences;
 use persist::{Change, KeptWords, Memory};
@@ -101,8 +100,8 @@ impl Notes {
         more: usize,
     ) -> Result<(), AllocError>
         requires { from + length (W.kept_words words.now) ≤ length memory.now.words.kept }
-        ensures noted { OnOk result (HasNoted self.old.changes self.new.changes memory.now.words.kept
-            (overwritten from (W.kept_words words.now) memory.now.words.kept)) }
+        ensures noted { OnOk result (HasNotedWritten self.old.changes self.new.changes
+            from (W.kept_words words.now) memory.now.words.kept) }
         ensures promised { OnOk result (self.new.promised ≡ more) }
         ensures same { OnErr result (self.new ≡ self.old) }
     {

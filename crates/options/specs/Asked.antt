@@ -6,7 +6,7 @@ use Rattle.clap.specs.declared.error.Error.{Error}
 use Rattle.clap.specs.declared.error.kind.ErrorKind.TheVariants.{OutOfMemory, ValueValidation}
 use Rattle.options.specs.Commands.{pqd_app}
 use Rattle.options.specs.declared.limits.TheConstants.{DEFAULT_CLIENTS, DEFAULT_RECORDS, DEFAULT_PORT, DEFAULT_WORKERS, MAX_PORT, MAX_WORKERS}
-use Rattle.options.specs.Numbers.{Fits, number_of}
+use Rattle.options.specs.Numbers.{Fits, given_text, number_of}
 use Rattle.options.specs.declared.asked.Options.{Options}
 use Rattle.options.specs.declared.asked.Listening.{Listening}
 use Rattle.options.specs.declared.asked.Mode.{Mode}
@@ -83,7 +83,7 @@ pub record Asks (command : Option Text) (given : Text → Option Text) (o : Opti
   pub fit : AllFit command given
   pub clients : o.clients ≡ number_of DEFAULT_CLIENTS (given (codes "clients"))
   pub records : o.records ≡ number_of DEFAULT_RECORDS (given (codes "records"))
-  pub image : option_map (λ s. s.now) o.image ≡ given (codes "image")
+  pub image : given_text o.image ≡ given (codes "image")
   pub journal : JournalsBy given o.journal
   pub renew : IsTrue o.renew ↔ (given (codes "renew") ≡ Some (codes "true"))
   pub mode : IsModeOf command given o.mode

@@ -1,8 +1,10 @@
 -- The commands of `pqd`, and the options that each takes, as clap sees them.
-use Rattle.std.specs.Prelude.{Some, true, codes}
+use Rattle.std.specs.Prelude.{◌≡◌, Some, false, true, codes}
 use Rattle.clap.specs.Words.{App, Rule, Text, new_app, new_rule, with_rule, with_subcommand}
 use Rattle.clap.specs.Simple.{on_top}
 use Rattle.clap.specs.declared.builder.action.ArgAction.TheVariants.{Set, SetTrue}
+use Rattle.clap.specs.declared.builder.command.Command.{Command}
+use Rattle.clap.specs.declared.builder.command.Command.TheViews.{out-Command}
 
 -- `--name VALUE`
 abbrev pub option_rule : Text → Rule
@@ -11,6 +13,10 @@ option_rule name = record (new_rule name) { long = Some name; action = Some Set;
 -- `--name`, which takes no value
 abbrev pub flag_rule : Text → Rule
 flag_rule name = record (new_rule name) { long = Some name; action = Some SetTrue }
+
+-- a command has no option that holds for its subcommands, too
+abbrev pub HasNoGlobals : Command → Type 0
+HasNoGlobals command = (out-Command command).has_globals ≡ false
 
 -- a command with the options of a broker and its queues
 abbrev pub with_queue_rules : App → App

@@ -1,6 +1,11 @@
 -- What an option that is a number comes to.
-use Rattle.std.specs.Prelude.{ℕ, ◌≤◌, List, Option, Some, None, ⊤}
+use Rattle.std.specs.Prelude.{ℕ, ◌≤◌, List, Option, Some, None, ⊤, option_map}
+use Rattle.std.specs.Borrow.{Bor}
 use Rattle.std.specs.Str.Parse.{IsNumeral, digits_value, without_leading_plus}
+
+-- the text that an option was given, if it was given one
+abbrev pub given_text : Option (Bor (List ℕ)) → Option (List ℕ)
+given_text given = option_map (λ s. s.now) given
 
 -- the number that the digits of a text write, before which a plus may stand
 abbrev pub decimal_value : List ℕ → ℕ

@@ -5,7 +5,7 @@ use Rattle.clap.specs.declared.error.Error.{Error}
 use Rattle.clap.specs.declared.error.kind.ErrorKind.TheVariants.{OutOfMemory, ValueValidation}
 use Rattle.options.specs.Asked.{name_in, values_in}
 use Rattle.options.specs.declared.limits.TheConstants.{DEFAULT_DRAW, MAX_DRAW, MAX_POINT}
-use Rattle.options.specs.Numbers.{Fits, decimal_value, number_of}
+use Rattle.options.specs.Numbers.{Fits, decimal_value, given_text, number_of}
 use Rattle.options.specs.PqxCommands.{pqx_app}
 use Rattle.options.specs.declared.pqx.Choice.{Choice}
 use Rattle.options.specs.declared.pqx.Choice.TheVariants.{None as no_word, All as all_words, Drawn as drawn_words}
@@ -47,7 +47,7 @@ pub record AsksPoints (given : Text → Option Text) (o : PointOptions) : Type 0
   pub from : o.from ≡ number_of 0 (given (codes "from"))
   pub count_fits : Fits 0 MAX_POINT (given (codes "count"))
   pub count : o.count ≡ option_map decimal_value (given (codes "count"))
-  pub page : option_map (λ s. s.now) o.page ≡ given (codes "page")
+  pub page : given_text o.page ≡ given (codes "page")
 
 -- those of one on a whole broker's points say this
 pub record AsksBrokerPoints (given : Text → Option Text) (o : BrokerPointOptions) : Type 0 where
@@ -58,11 +58,11 @@ pub record AsksBrokerPoints (given : Text → Option Text) (o : BrokerPointOptio
 
 -- the options of a transcript say this
 pub record AsksRun (given : Text → Option Text) (o : RunOptions) : Type 0 where
-  pub page : option_map (λ s. s.now) o.page ≡ given (codes "page")
+  pub page : given_text o.page ≡ given (codes "page")
 
 -- the options of a verdict on a recording say this
 pub record AsksCheck (given : Text → Option Text) (o : CheckOptions) : Type 0 where
-  pub page : option_map (λ s. s.now) o.page ≡ given (codes "page")
+  pub page : given_text o.page ≡ given (codes "page")
 
 -- the command and the values of its options ask this
 abbrev pub Asks : Option Text → (Text → Option Text) → PqxAsked → Type 0

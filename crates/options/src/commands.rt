@@ -2,8 +2,7 @@
 
 ghost use Rattle.std.specs.Prelude.{◌≡◌, IfOk, false};
 ghost use Rattle.clap.specs.Words.{app_of, rule_of};
-ghost use Rattle.clap.specs.declared.builder.command.Command.TheViews.{out-Command};
-ghost use Rattle.options.specs.Commands.{flag_rule, option_rule, pipe_app, pqd_app, serve_app, with_journal_rules};
+ghost use Rattle.options.specs.Commands.{HasNoGlobals, flag_rule, option_rule, pipe_app, pqd_app, serve_app, with_journal_rules};
 ghost use Rattle.options.specs.Commands.{with_queue_rules};
 
 use crate::program::VERSION;
@@ -36,8 +35,7 @@ pub(crate) fn flag<'a>(alloc: Global, name: &'a str, help: &'a str) -> Arg<'a>
 /// The command with the options of a journal.
 fn with_journal_options<'a>(alloc: Global, command: Command<'a>) -> Result<Command<'a>, AllocError>
     ensures app { IfOk result (λ c. app_of c ≡ with_journal_rules (app_of command.entry)) }
-    ensures local { (out-Command command.entry).has_globals ≡ false
-        → IfOk result (λ c. (out-Command c).has_globals ≡ false) }
+    ensures local { HasNoGlobals command.entry → IfOk result HasNoGlobals }
 {
     let journal = option(
         alloc,
@@ -61,8 +59,7 @@ fn with_queue_options<'a>(
     renews: &'a str,
 ) -> Result<Command<'a>, AllocError>
     ensures app { IfOk result (λ c. app_of c ≡ with_queue_rules (app_of command.entry)) }
-    ensures local { (out-Command command.entry).has_globals ≡ false
-        → IfOk result (λ c. (out-Command c).has_globals ≡ false) }
+    ensures local { HasNoGlobals command.entry → IfOk result HasNoGlobals }
 {
     let clients = option(
         alloc,
@@ -89,7 +86,7 @@ fn with_queue_options<'a>(
 /// `pipe [--clients T] [--records K] [--image FILE] [--journal FILE [--sync WHEN]] [--renew]`
 fn pipe<'a>(alloc: Global) -> Result<Command<'a>, AllocError>
     ensures app { IfOk result (λ c. app_of c ≡ pipe_app) }
-    ensures local { IfOk result (λ c. (out-Command c).has_globals ≡ false) }
+    ensures local { IfOk result HasNoGlobals }
 {
     let command = Command::new(alloc, "pipe").about(
         "Answers the requests of standard input on standard output",
@@ -105,7 +102,7 @@ fn pipe<'a>(alloc: Global) -> Result<Command<'a>, AllocError>
 /// `serve [--clients T] [--records K] [--image FILE] [--journal FILE [--sync WHEN]] [--renew] [--port P] [--workers N]`
 fn serve<'a>(alloc: Global) -> Result<Command<'a>, AllocError>
     ensures app { IfOk result (λ c. app_of c ≡ serve_app) }
-    ensures local { IfOk result (λ c. (out-Command c).has_globals ≡ false) }
+    ensures local { IfOk result HasNoGlobals }
 {
     let command = Command::new(alloc, "serve").about(
         "Answers the requests of connections to a port",

@@ -1,9 +1,10 @@
 //! What the words of a command line ask.
 
-ghost use Rattle.std.specs.Prelude.{◌≡◌, ◌↔◌, IfOk, IfErr, IsTrue, OnErr, Some, codes, map, option_map};
+ghost use Rattle.std.specs.Prelude.{◌≡◌, ◌↔◌, IfOk, IfErr, IsTrue, OnErr, Some, codes, map};
 ghost use Rattle.clap.specs.Words.{first_value, found_of, kind_of, subcommand_rows_of};
 ghost use Rattle.options.specs.Asked.{AllFit, Asks, IsAsked, IsKnown, ListeningFits, ListensBy, Refuses};
 ghost use Rattle.options.specs.Asked.{IsSyncing, JournalFits, JournalsBy, SyncsBy, name_in, values_in};
+ghost use Rattle.options.specs.Numbers.{given_text};
 
 use crate::asked::{Journaling, Listening, Mode, Options, Syncing};
 use crate::commands::pqd;
@@ -37,8 +38,8 @@ fn listening(given: &ArgMatches<'_>) -> Result<Listening, Misfit>
 
 /// When a journal's bytes are kept.
 fn syncing(given: Option<&str>) -> Result<Syncing, Misfit>
-    ensures chosen { IfOk result (SyncsBy (option_map (λ s. s.now) given.entry)) }
-    ensures misfit { OnErr result (¬ (IsSyncing (option_map (λ s. s.now) given.entry))) }
+    ensures chosen { IfOk result (SyncsBy (given_text given.entry)) }
+    ensures misfit { OnErr result (¬ (IsSyncing (given_text given.entry))) }
 {
     let Some(text) = given else {
         return Ok(Syncing::EachSecond);

@@ -2,7 +2,7 @@
 
 ghost use Rattle.std.specs.Prelude.{◌≡◌, IfOk, codes, false};
 ghost use Rattle.clap.specs.Words.{app_of, new_app, rule_of};
-ghost use Rattle.clap.specs.declared.builder.command.Command.TheViews.{out-Command};
+ghost use Rattle.options.specs.Commands.{HasNoGlobals};
 ghost use Rattle.options.specs.PqxCommands.{broker_app, check_app, points_app, run_app, pqx_app, scripts_app, top_app, with_part_rules};
 ghost use Rattle.options.specs.PqxCommands.{word_rule};
 
@@ -62,7 +62,7 @@ docs/HISTORIES.md has the other lines, the verdicts, and how to record.";
 /// `check [--order] [--page FILE]`
 fn check<'a>(alloc: Global) -> Result<Command<'a>, AllocError>
     ensures app { IfOk result (λ c. app_of c ≡ check_app) }
-    ensures local { IfOk result (λ c. (out-Command c).has_globals ≡ false) }
+    ensures local { IfOk result HasNoGlobals }
 {
     let command = Command::new(alloc, "check")
         .about(
@@ -93,7 +93,7 @@ fn task<'a>(alloc: Global) -> Arg<'a>
 /// `broker run`, `broker points [--evict none|all|drawn] [--draw N]`
 fn broker<'a>(alloc: Global) -> Result<Command<'a>, AllocError>
     ensures app { IfOk result (λ c. app_of c ≡ broker_app) }
-    ensures local { IfOk result (λ c. (out-Command c).has_globals ≡ false) }
+    ensures local { IfOk result HasNoGlobals }
 {
     let command = Command::new(alloc, "broker")
         .about(
@@ -119,8 +119,7 @@ fn broker<'a>(alloc: Global) -> Result<Command<'a>, AllocError>
 /// The command with the options of a part of a report.
 fn with_part_options<'a>(alloc: Global, command: Command<'a>) -> Result<Command<'a>, AllocError>
     ensures app { IfOk result (λ c. app_of c ≡ with_part_rules (app_of command.entry)) }
-    ensures local { (out-Command command.entry).has_globals ≡ false
-        → IfOk result (λ c. (out-Command c).has_globals ≡ false) }
+    ensures local { HasNoGlobals command.entry → IfOk result HasNoGlobals }
 {
     let from = option(
         alloc,
@@ -140,7 +139,7 @@ fn with_part_options<'a>(alloc: Global, command: Command<'a>) -> Result<Command<
 /// `points [--evict none|all|drawn] [--draw N] [--from P] [--count N] [--page FILE]`
 fn points<'a>(alloc: Global) -> Result<Command<'a>, AllocError>
     ensures app { IfOk result (λ c. app_of c ≡ points_app) }
-    ensures local { IfOk result (λ c. (out-Command c).has_globals ≡ false) }
+    ensures local { IfOk result HasNoGlobals }
 {
     let command = Command::new(alloc, "points")
         .about(
@@ -171,7 +170,7 @@ fn points<'a>(alloc: Global) -> Result<Command<'a>, AllocError>
 /// `run [--page FILE]`
 fn run<'a>(alloc: Global) -> Result<Command<'a>, AllocError>
     ensures app { IfOk result (λ c. app_of c ≡ run_app) }
-    ensures local { IfOk result (λ c. (out-Command c).has_globals ≡ false) }
+    ensures local { IfOk result HasNoGlobals }
 {
     let command = Command::new(alloc, "run")
         .about("Follows the script that standard input has, and prints what happens")
@@ -188,7 +187,7 @@ fn run<'a>(alloc: Global) -> Result<Command<'a>, AllocError>
 /// A command that takes no option.
 fn plain<'a>(alloc: Global, name: &'a str, about: &'a str) -> Command<'a>
     ensures app { app_of result ≡ new_app name.entry.now }
-    ensures local { (out-Command result).has_globals ≡ false }
+    ensures local { HasNoGlobals result }
 {
     Command::new(alloc, name).about(about).after_help(SCRIPTS)
 }
@@ -196,7 +195,7 @@ fn plain<'a>(alloc: Global, name: &'a str, about: &'a str) -> Command<'a>
 /// `pqx` without its commands.
 fn top<'a>(alloc: Global) -> Command<'a>
     ensures app { app_of result ≡ top_app }
-    ensures local { (out-Command result).has_globals ≡ false }
+    ensures local { HasNoGlobals result }
 {
     plain(alloc, "pqx", "Follows scripts of single steps on a queue")
         .version(VERSION)

@@ -5,7 +5,7 @@ ghost use Rattle.std.specs.Result.{OkIff};
 ghost use Rattle.clap.specs.Words.{first_value, found_of, kind_of, subcommand_rows_of};
 ghost use Rattle.options.specs.Asked.{name_in, values_in};
 ghost use Rattle.options.specs.declared.limits.TheConstants.{DEFAULT_DRAW, MAX_DRAW, MAX_POINT};
-ghost use Rattle.options.specs.Numbers.{Fits, decimal_value, number_of};
+ghost use Rattle.options.specs.Numbers.{Fits, decimal_value, given_text, number_of};
 ghost use Rattle.options.specs.PqxAsked.{AllFit, AreTaken, Asks, AsksBrokerPoints, AsksCheck, AsksPoints, AsksRun};
 ghost use Rattle.options.specs.PqxAsked.{Chooses, IsChoice, IsPqxAsked, IsTask, RefusesPqx};
 
@@ -44,8 +44,8 @@ fn text_of(misfit: Misfit) -> &'static str {
 
 /// The choice that is given, or none where none is.
 fn choice(given: Option<&str>) -> Result<Choice, Misfit>
-    ensures chosen { IfOk result (Chooses (option_map (λ s. s.now) given.entry)) }
-    ensures misfit { OnErr result (¬ (IsChoice (option_map (λ s. s.now) given.entry))) }
+    ensures chosen { IfOk result (Chooses (given_text given.entry)) }
+    ensures misfit { OnErr result (¬ (IsChoice (given_text given.entry))) }
 {
     let Some(text) = given else {
         return Ok(Choice::None);
@@ -60,8 +60,8 @@ fn choice(given: Option<&str>) -> Result<Choice, Misfit>
 
 /// The state that is given, or the default where none is.
 fn draw(given: Option<&str>) -> Result<u64, Misfit>
-    ensures { OkIff result (Fits 0 MAX_DRAW (option_map (λ s. s.now) given.entry))
-        (number_of DEFAULT_DRAW (option_map (λ s. s.now) given.entry)) }
+    ensures { OkIff result (Fits 0 MAX_DRAW (given_text given.entry))
+        (number_of DEFAULT_DRAW (given_text given.entry)) }
 {
     let Some(text) = given else {
         return Ok(DEFAULT_DRAW);
@@ -71,8 +71,7 @@ fn draw(given: Option<&str>) -> Result<u64, Misfit>
 
 /// The first point that is given, or the very first where none is.
 fn first_point(given: Option<&str>) -> Result<u64, Misfit>
-    ensures { OkIff result (Fits 0 MAX_POINT (option_map (λ s. s.now) given.entry))
-        (number_of 0 (option_map (λ s. s.now) given.entry)) }
+    ensures { OkIff result (Fits 0 MAX_POINT (given_text given.entry)) (number_of 0 (given_text given.entry)) }
 {
     let Some(text) = given else {
         return Ok(0);
@@ -82,8 +81,8 @@ fn first_point(given: Option<&str>) -> Result<u64, Misfit>
 
 /// How many points are wanted, if that is given.
 fn point_count(given: Option<&str>) -> Result<Option<u64>, Misfit>
-    ensures { OkIff result (Fits 0 MAX_POINT (option_map (λ s. s.now) given.entry))
-        (option_map decimal_value (option_map (λ s. s.now) given.entry)) }
+    ensures { OkIff result (Fits 0 MAX_POINT (given_text given.entry))
+        (option_map decimal_value (given_text given.entry)) }
 {
     let Some(text) = given else {
         return Ok(None);

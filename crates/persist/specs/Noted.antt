@@ -2,7 +2,7 @@
 use Rattle.std.specs.Prelude.{◌≡◌, ◌≢◌, ℕ, ◌+◌, ◌<◌, List, [], ◌∷◌, length, fold, Option, Some, None, IfSome, Result, Ok, Err, slice_index, slice_set}
 use Rattle.words.specs.declared.refusal.Refusal.{Refusal}
 use Rattle.persist.specs.Changes.{change_of}
-use Rattle.persist.specs.Memory.{Access, Words, Load, Store, Cas, Flush, Fence}
+use Rattle.persist.specs.Memory.{Access, Words, Load, Store, Cas, Flush, Fence, words_in}
 use Rattle.persist.specs.declared.access.Change.{Change}
 use Rattle.persist.specs.declared.access.Noted.{Noted}
 
@@ -41,6 +41,12 @@ change_made_by (Fence word) ws = change_of ws word
 abbrev pub change_behind : ℕ → Option Change → Option Change
 change_behind from None = None
 change_behind from (Some change) = Some (record { word = from + change.word; old = change.old; new = change.new })
+
+-- what changed this part changed the whole so, at the words as the whole numbers them
+abbrev pub IsNotedBehind : ℕ → ℕ → Words → Words → Type 0
+IsNotedBehind from len old new =
+    (change : Option Change) → IsNoted change (words_in from len old).kept (words_in from len new).kept
+    → IsNoted (change_behind from change) old.kept new.kept
 
 -- what an act answered, apart from its change; and the change: a refused act made none
 abbrev pub answer_in : {T : Type 0} → Result (Noted T) Refusal → Result T Refusal

@@ -3,8 +3,8 @@
 ghost use Rattle.std.specs.Prelude.{◌≡◌, ◌+◌, ◌++◌, ◌≤◌, ℕ, List, Ok, Option, length};
 ghost use Rattle.persist.specs.Changes.{change_of};
 ghost use Rattle.persist.specs.Image.{AreWords, AreBytes, image_of, reading};
-ghost use Rattle.persist.specs.Memory.{Access, Words, IsSameOutside, after, words_after_eviction, words_in};
-ghost use Rattle.persist.specs.Noted.{applied, change_behind, change_made_by, changes_in, IsNoted};
+ghost use Rattle.persist.specs.Memory.{Access, Words, IsSameOutside, after, words_after_eviction};
+ghost use Rattle.persist.specs.Noted.{applied, change_made_by, changes_in, IsNoted, IsNotedBehind};
 ghost use Rattle.persist.specs.declared.access.Change.{Change};
 
 /// The words of any memory are read from their image. Bytes that are read have the words of some memory, and are the
@@ -23,9 +23,8 @@ pub fn changes_are_noted()
         → IsNoted (change_made_by access ws) ws.kept (after access ws).kept }
     ensures evicted { (word : ℕ) (ws : Words) → length ws.kept ≡ length ws.cached
         → IsNoted (change_of ws word) ws.kept (words_after_eviction word ws).kept }
-    ensures within { (from len : ℕ) (change : Option Change) (old new : Words) → IsSameOutside from len old new
-        → from + len ≤ length old.kept → IsNoted change (words_in from len old).kept (words_in from len new).kept
-        → IsNoted (change_behind from change) old.kept new.kept }
+    ensures within { (from len : ℕ) (old new : Words)
+        → IsSameOutside from len old new → from + len ≤ length old.kept → IsNotedBehind from len old new }
     ensures more { (first old new : List ℕ) (changes : List Change) (change : Option Change)
         → old ≡ applied changes first → IsNoted change old new
         → new ≡ applied (changes ++ changes_in change) first }

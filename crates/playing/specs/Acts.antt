@@ -26,15 +26,22 @@ attempts_of s Content = []
 attempts_of s Order = []
 attempts_of s Again = []
 
+abbrev pub attempts_of_all : Shape → List Command → List (Act ℕ)
+attempts_of_all s commands = flat_map (attempts_of s) commands
+
 -- which of the acts are accepted, one attempted after another
 abbrev pub accepted_of : State → List (Act ℕ) → List (Act ℕ)
 accepted_of w [] = []
 accepted_of w (act ∷ acts) =
     if is_accepted w act then act ∷ accepted_of (after_act w act) acts else accepted_of (after_act w act) acts
 
+-- those of a command
+abbrev pub accepted_by : State → Command → List (Act ℕ)
+accepted_by w command = accepted_of w (attempts_of w.shape command)
+
 -- the acts of a script on a new world of this shape: those of its commands that are accepted
 abbrev pub acts_of : Shape → List Command → List (Act ℕ)
-acts_of s commands = accepted_of (new_world s) (flat_map (attempts_of s) commands)
+acts_of s commands = accepted_of (new_world s) (attempts_of_all s commands)
 
 -- an act that changes nothing where it is refused
 abbrev pub IsSteady : Act ℕ → Type 0

@@ -42,10 +42,13 @@ alone_after s acts point = answers_in point (after_acts (new_world s) acts)
 abbrev pub alone_at : Shape → List (Act ℕ) → ℕ → List Alone
 alone_at s acts point = alone_after s (take point acts) point
 
+-- and after each of them
+abbrev pub alone_at_each : Shape → List (Act ℕ) → List Alone
+alone_at_each s acts = flat_map (alone_at s acts) (range_with_len 0 (length acts + 1))
+
 -- and at each point of a script
 abbrev pub alone_on : Shape → List Command → List Alone
-alone_on s commands =
-    flat_map (alone_at s (acts_of s commands)) (range_with_len 0 (length (acts_of s commands) + 1))
+alone_on s commands = alone_at_each s (acts_of s commands)
 
 abbrev pub alone_of : Option QueueLine → List Command → List Alone
 alone_of None commands = []

@@ -1,5 +1,5 @@
 -- The lines of a world that follows a script.
-use Rattle.std.specs.Prelude.{◌≡◌, ℕ, false, zero, suc, List, [], ◌∷◌, ◌++◌, Option, Some, None, is_some, Result, Ok, Err, length, slice_get, slice_index}
+use Rattle.std.specs.Prelude.{◌≡◌, ◌≢◌, ℕ, All, false, zero, suc, List, [], ◌∷◌, ◌++◌, Option, Some, None, is_some, Result, Ok, Err, length, slice_get, slice_index}
 use Rattle.std.specs.List.{flat_map}
 use Rattle.words.specs.declared.call.Client.{Client}
 use Rattle.words.specs.declared.call.Reply.{Reply}
@@ -29,6 +29,9 @@ use Rattle.playing.specs.declared.lines.Line.TheVariants.{Size as size_line, Cal
 abbrev pub start_line : Command → Result Unit Refusal → Line
 start_line command (Ok u) = call_line command
 start_line command (Err refusal) = refused_line refusal
+
+abbrev pub start_lines : Play → Command → Client → ℕ → List Line
+start_lines play command client number = start_line command (start_result false play.world client number) ∷ []
 
 -- up to so many steps of a client's call give the answer of the one that answers, or why one was refused
 abbrev pub lines_then : Client → ℕ → Result (Option Reply) Refusal → List Line → List Line
@@ -92,12 +95,10 @@ order_lines events entries = order_line (length entries) ∷ flat_map (entry_lin
 
 -- what a command gives
 abbrev pub command_lines : Play → Command → List Line
-command_lines play (Enq client value) = start_line (Enq client value) (start_result false play.world client 0) ∷ []
-command_lines play (NumberedEnq client number value) =
-    start_line (NumberedEnq client number value) (start_result false play.world client number) ∷ []
-command_lines play (Deq client) = start_line (Deq client) (start_result false play.world client 0) ∷ []
-command_lines play (NumberedDeq client number) =
-    start_line (NumberedDeq client number) (start_result false play.world client number) ∷ []
+command_lines play (Enq client value) = start_lines play (Enq client value) client 0
+command_lines play (NumberedEnq client number value) = start_lines play (NumberedEnq client number value) client number
+command_lines play (Deq client) = start_lines play (Deq client) client 0
+command_lines play (NumberedDeq client number) = start_lines play (NumberedDeq client number) client number
 command_lines play (Step client most) = step_lines client most play
 command_lines play (End client) = step_lines client most_alone play
 command_lines play (Evict word) = evict_line word (evict_result play.world word) ∷ []
@@ -113,6 +114,10 @@ abbrev pub lines_of_all : Play → List Command → List Line
 lines_of_all play [] = []
 lines_of_all play (command ∷ commands) =
     command_lines play command ++ lines_of_all (after_command play command) commands
+
+-- no act is made again
+abbrev pub HasNoAgain : List Command → Type 0
+HasNoAgain commands = All (λ command. command ≢ Again) commands
 
 -- the line of an act that was refused for want of memory
 abbrev pub refused_memory : Line

@@ -3,7 +3,7 @@
 ghost use Rattle.std.specs.Prelude.{◌≡◌, ◌++◌, ◌∷◌, [], OnOk, IfOk, IfErr, replicate};
 ghost use Rattle.interleave.specs.State.{after_acts};
 ghost use Rattle.protocol.specs.declared.acts.Act.TheVariants.{Start};
-ghost use Rattle.playing.specs.Acts.{accepted_of, acts_of, attempts_of, IsSteady};
+ghost use Rattle.playing.specs.Acts.{accepted_by, accepted_of, acts_of, attempts_of, IsSteady};
 
 use crate::attempts::{attempt, most_to_ready, repeat};
 use crate::lists::push;
@@ -79,8 +79,7 @@ fn start(client: Client, number: u64, call: Call) -> Act
 /// Attempts what a command asks for, and adds the acts that were accepted.
 fn follow(world: &mut World, acts: &mut Vec<Act>, command: Command) -> Result<(), Refusal>
     ensures world { OnOk result (world.new.now ≡ after_acts world.old.now (attempts_of world.old.now.shape command)) }
-    ensures acts { OnOk result (acts.new.items
-        ≡ acts.old.items ++ accepted_of world.old.now (attempts_of world.old.now.shape command)) }
+    ensures acts { OnOk result (acts.new.items ≡ acts.old.items ++ accepted_by world.old.now command) }
     ensures errors { IfErr result (λ e. e ≡ Refusal.NoMemory) }
 {
     // Steps past the answer, or once the queue is ready, are refused, and so no acts: the greatest count will do.

@@ -1,11 +1,10 @@
 //! Calls that stopped, each going on alone.
 
 ghost use Rattle.std.specs.Prelude.{◌≡◌, ◌≤◌, ◌+◌, ◌++◌, Ok, false, OnOk, IfOk, IfErr, All, length};
-ghost use Rattle.std.specs.List.{flat_map, range_with_len};
 ghost use Rattle.words.specs.declared.limits.TheConstants.{MAX_STEPS_ALONE};
 ghost use Rattle.interleave.specs.State.{after_acts, new_world};
 ghost use Rattle.playing.specs.Play.{most_alone};
-ghost use Rattle.playing.specs.Stopped.{alone_after, alone_at, alone_of, answer_alone};
+ghost use Rattle.playing.specs.Stopped.{alone_after, alone_at_each, alone_of, answer_alone};
 
 use crate::acts::accepted_acts;
 use crate::answers::Alone;
@@ -82,8 +81,7 @@ fn add_clients(
 
 /// What becomes of each call that stopped, at each point.
 fn alone_on(alloc: Global, layout: Layout, acts: &[Act]) -> Result<Vec<Alone>, Refusal>
-    ensures found { IfOk result (λ found. found.items
-        ≡ flat_map (alone_at layout acts.now) (range_with_len 0 (length acts.now + 1))) }
+    ensures found { IfOk result (λ found. found.items ≡ alone_at_each layout acts.now) }
     ensures errors { IfErr result (λ e. e ≡ Refusal.NoMemory) }
 {
     let mut found = Vec::new(alloc);

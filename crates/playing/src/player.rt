@@ -2,9 +2,9 @@
 
 ghost use Rattle.std.specs.Prelude.{◌≡◌, ◌<◌, ◌≤◌, ◌++◌, ◌∷◌, [], ℕ, suc, Ok, IfOk, IfErr, IsErrOf, OnErr, OnOk, false, true};
 ghost use Rattle.grammar.specs.Grammar.{is_shown};
-ghost use Rattle.interleave.specs.State.{start_result, evict_result, recover_result, steps_to_ready, order_in, kept_content};
+ghost use Rattle.interleave.specs.State.{recover_result, steps_to_ready};
 ghost use Rattle.playing.specs.Play.{most_alone, most_recovery, new_play, play_after_start, after_steps, after_eviction, play_after_crash, play_after_recovery_step, after_recovery, after_command};
-ghost use Rattle.playing.specs.Transcript.{start_line, step_lines, evict_line, ready_lines, recovery_lines, order_lines, command_lines};
+ghost use Rattle.playing.specs.Transcript.{start_lines, step_lines, ready_lines, recovery_lines, command_lines};
 
 use crate::entries::named_call;
 use crate::lines::{Line, Values, add, add_refused};
@@ -54,7 +54,7 @@ impl Player {
     ) -> Result<(), Refusal>
         ensures play { OnOk result (self.new ≡ play_after_start self.old client number call) }
         ensures lines { OnOk result (lines.new.items
-            ≡ lines.old.items ++ start_line command.now (start_result false self.old.world client number) ∷ []) }
+            ≡ lines.old.items ++ start_lines self.old command.now client number) }
         ensures errors { IfErr result (λ e. e ≡ Refusal.NoMemory) }
     {
         match self.world.start(client, number, call) {
@@ -121,7 +121,7 @@ impl Player {
     fn evict(&mut self, lines: &mut Vec<Line>, word: u64) -> Result<(), Refusal>
         ensures play { OnOk result (self.new ≡ after_eviction self.old word) }
         ensures lines { OnOk result (lines.new.items
-            ≡ lines.old.items ++ evict_line word (evict_result self.old.world word) ∷ []) }
+            ≡ lines.old.items ++ command_lines self.old (Command.Evict word)) }
         ensures errors { IfErr result (λ e. e ≡ Refusal.NoMemory) }
     {
         match self.world.evict(word as usize) {
@@ -213,8 +213,7 @@ impl Player {
     /// Recovery goes on to its end.
     fn recover(&mut self, lines: &mut Vec<Line>) -> Result<(), Refusal>
         ensures play { OnOk result (self.new ≡ after_recovery (most_recovery self.old.world) self.old) }
-        ensures lines { OnOk result (lines.new.items
-            ≡ lines.old.items ++ recovery_lines (most_recovery self.old.world) self.old) }
+        ensures lines { OnOk result (lines.new.items ≡ lines.old.items ++ command_lines self.old Command.Recover) }
         ensures errors { IfErr result (λ e. e ≡ Refusal.NoMemory) }
     {
         while !self.recover_step(lines)? {}
@@ -223,8 +222,7 @@ impl Player {
 
     /// Shows what the queue holds.
     fn show_content(&self, lines: &mut Vec<Line>) -> Result<(), Refusal>
-        ensures lines { OnOk result (lines.new.items
-            ≡ lines.old.items ++ Line.Content (kept_content self.now.world) ∷ []) }
+        ensures lines { OnOk result (lines.new.items ≡ lines.old.items ++ command_lines self.now Command.Content) }
         ensures errors { IfErr result (λ e. e ≡ Refusal.NoMemory) }
     {
         let values = self.world.content()?;
@@ -233,8 +231,7 @@ impl Player {
 
     /// Shows in which order the calls took effect. An entry names a call; one that did not would show nothing.
     fn show_order(&self, lines: &mut Vec<Line>) -> Result<(), Refusal>
-        ensures lines { OnOk result (lines.new.items
-            ≡ lines.old.items ++ order_lines self.now.world.log.events (order_in self.now.world)) }
+        ensures lines { OnOk result (lines.new.items ≡ lines.old.items ++ command_lines self.now Command.Order) }
         ensures errors { IfErr result (λ e. e ≡ Refusal.NoMemory) }
     {
         let order = self.world.order()?;

@@ -111,6 +111,13 @@ pub record IsNew (s : Shape) (told : List Told) : Type 0 where
   pub few : s.clients ≤ MAX_CLIENTS
   pub tells : TellsNothing s told
 
+-- a new queue of this shape comes to this world by some acts
+pub record IsReached (s : Shape) (w : World) : Type 0 where
+  pub told : List Told
+  pub acts : List (Act Place)
+  pub new : IsNew s told
+  pub by : world_after s told acts ≡ w
+
 -- the history may arise, the order explains it, and the kept words hold what the order's replay leaves
 pub record IsExplained (w : World) : Type 0 where
   pub arises : IsHistory w.log.events
@@ -124,3 +131,15 @@ pub record TellsByKept (w : World) : Type 0 where
   pub each : (r : Recovery) (tells : List Told) → w.recovery ≡ Some r → next_recovery w r ≡ Ready tells
       → (t : ℕ) (told : Told) → slice_get tells t ≡ Some told
       → TellsOf w.shape (with_recovery_step w r).memory.kept t told
+
+-- these two keep equal words
+abbrev pub KeepAlike : World → World → Type 0
+KeepAlike v w = (p : Place) → v.memory.kept p ≡ w.memory.kept p
+
+-- nothing is pending: every word is kept as it is cached
+abbrev pub IsAllKept : World → Type 0
+IsAllKept w = (p : Place) → w.memory.cached p ≡ w.memory.kept p
+
+-- no node stands twice in this list
+abbrev pub HasNoneTwice : List ℕ → Type 0
+HasNoneTwice nodes = (i j n : ℕ) → slice_get nodes i ≡ Some n → slice_get nodes j ≡ Some n → i ≡ j

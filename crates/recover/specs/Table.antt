@@ -15,7 +15,7 @@ use Rattle.words.specs.declared.told.Told.{Told}
 use Rattle.words.specs.declared.told.Told.TheVariants.{None as told_none, Verdict as told_verdict, Row as told_row}
 use Rattle.words.specs.declared.limits.TheConstants.{MAX_CALL_NUMBER, MAX_CLIENTS}
 use Rattle.arena.specs.declared.codes.TheConstants.{EMPTY_CELL, EMPTY_STATUS, ENQUEUE_KIND, GOT_CELL, TAKEN_STATUS}
-use Rattle.persist.specs.Memory.{Access, Load, Store, Flush, Fence}
+use Rattle.persist.specs.Memory.{Words, Access, Load, Store, Flush, Fence}
 use Rattle.arena.specs.Shape.{Shape}
 use Rattle.arena.specs.Place.{IsClient, IsNode, IsRecord}
 use Rattle.arena.specs.Answers.{result_of}
@@ -24,6 +24,7 @@ use Rattle.arena.specs.declared.place.Place.{Place}
 use Rattle.arena.specs.declared.place.Place.TheVariants.{Head, Tail, Announcement, Item, Next, Mark, Cell, Insert, Number, EntryKind, Status, EntryNode}
 use Rattle.sound_words.specs.Told.{no_call}
 use Rattle.stepper.specs.Loading.{part_next, loaded_with}
+use Rattle.stepper.specs.Step.{value_found}
 use Rattle.stepper.specs.declared.loading.Loading.{Loading}
 use Rattle.stepper.specs.declared.loading.Loading.TheVariants.{Length as at_length}
 use Rattle.stepper.specs.declared.resume.After.{After}
@@ -52,6 +53,13 @@ kept_place kind (KeepStatus p) = Status p.entry
 kept_place kind (KeepResult p) = (result_of kind p.mark p.node).place
 kept_place kind (KeepHead p) = Head
 kept_place kind (KeepTail p) = Tail
+
+-- the two accesses that keep a word: it is asked for, and then waited for
+abbrev pub flush_of : Shape → RecoveryKeeping → Access Place
+flush_of s k = Flush (kept_place s.kind k)
+
+abbrev pub fence_of : Shape → RecoveryKeeping → Access Place
+fence_of s k = Fence (kept_place s.kind k)
 
 -- the one access of each waiting point
 abbrev pub access_of : Kind → RecoveryPoint → Access Place
@@ -193,6 +201,10 @@ recovery_at s told (Ended report) = after_report s told report
 -- what comes after a step of recovery whose access found this value
 abbrev pub recovery_after : Shape → Recovery → ℕ → After Recovery (List Told)
 recovery_after s r found = recovery_at s r.told (successor s r.at found)
+
+-- and after its next step on these words
+abbrev pub recovery_next : Shape → Recovery → Words → After Recovery (List Told)
+recovery_next s r ws = recovery_after s r (value_found s (access_of s.kind r.at) ws)
 
 -- the same, as a recovery and whether it is at its end
 abbrev pub recovery_reached : Bool → Recovery → After Recovery (List Told)

@@ -2,12 +2,11 @@
 //! each says what goes wrong without its fence, with the must-fail edit that shows it.
 
 ghost use Rattle.std.specs.Prelude.{◌≡◌, ◌≤◌, length, None};
-ghost use Rattle.persist.specs.Memory.{Fence, Flush};
 ghost use Rattle.arena.specs.Layout.{size_of};
 ghost use Rattle.arena.specs.Place.{IsPlace};
 ghost use Rattle.stepper.specs.Step.{after_one, change_by, lent_after_one, IsAskedFor};
 ghost use Rattle.stepper.specs.declared.resume.After.TheVariants.{More};
-ghost use Rattle.recover.specs.Table.{IsKeeping, kept_place, past_head, point_after_keeping};
+ghost use Rattle.recover.specs.Table.{IsKeeping, fence_of, flush_of, kept_place, past_head, point_after_keeping};
 ghost use Rattle.recover.specs.declared.point.RecoveryPoint.TheVariants.{Fence as FencePoint};
 
 use crate::ends::{RecoveryLoadNext, RecoveryStoreTail, past_status};
@@ -129,10 +128,8 @@ impl RecoveryKeeping {
     ) -> Stepped<RecoveryPoint, Report>
         requires room { size_of layout.now ≤ length (M.words memory.old).cached }
         requires point { IsKeeping layout.now self }
-        ensures one_access { let s = layout.now in
-            M.words memory.new ≡ after_one s (Flush (kept_place s.kind self)) (M.words memory.old) }
-        ensures lent { let s = layout.now in
-            M.lent memory.new ≡ lent_after_one s (Flush (kept_place s.kind self)) (M.lent memory.old) }
+        ensures one_access { M.words memory.new ≡ after_one layout.now (flush_of layout.now self) (M.words memory.old) }
+        ensures lent { M.lent memory.new ≡ lent_after_one layout.now (flush_of layout.now self) (M.lent memory.old) }
         ensures next { result.after ≡ More (FencePoint self) }
         ensures change { result.change ≡ None }
     {
@@ -148,15 +145,11 @@ impl RecoveryKeeping {
         memory: &mut M,
     ) -> Stepped<RecoveryPoint, Report>
         requires point { IsKeeping layout.now self }
-        requires asked { let s = layout.now in
-            IsAskedFor s (Fence (kept_place s.kind self)) (M.lent memory.old).request }
-        ensures one_access { let s = layout.now in
-            M.words memory.new ≡ after_one s (Fence (kept_place s.kind self)) (M.words memory.old) }
-        ensures lent { let s = layout.now in
-            M.lent memory.new ≡ lent_after_one s (Fence (kept_place s.kind self)) (M.lent memory.old) }
+        requires asked { IsAskedFor layout.now (fence_of layout.now self) (M.lent memory.old).request }
+        ensures one_access { M.words memory.new ≡ after_one layout.now (fence_of layout.now self) (M.words memory.old) }
+        ensures lent { M.lent memory.new ≡ lent_after_one layout.now (fence_of layout.now self) (M.lent memory.old) }
         ensures next { result.after ≡ More (point_after_keeping self) }
-        ensures change { let s = layout.now in
-            result.change ≡ change_by s (Fence (kept_place s.kind self)) (M.words memory.old) }
+        ensures change { result.change ≡ change_by layout.now (fence_of layout.now self) (M.words memory.old) }
     {
         let change = fence_at(layout, memory, self.place(layout));
         Stepped {

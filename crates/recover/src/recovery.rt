@@ -2,8 +2,8 @@
 
 ghost use Rattle.std.specs.Prelude.{◌≡◌, ◌<◌, ◌≤◌, length};
 ghost use Rattle.arena.specs.Layout.{size_of};
-ghost use Rattle.stepper.specs.Step.{after_one, change_by, lent_after_one, value_found, IsAskedFor, IsReadInRange};
-ghost use Rattle.recover.specs.Table.{access_of, after_report, boot_recovery, recovery_after, recovery_reached, IsPoint};
+ghost use Rattle.stepper.specs.Step.{after_one, change_by, lent_after_one, FindsInRange, IsAskedFor};
+ghost use Rattle.recover.specs.Table.{access_of, after_report, boot_recovery, recovery_next, recovery_reached, IsPoint};
 
 use crate::ends::RecoveryLoadHead;
 use crate::point::{RecoveryPoint, Report};
@@ -37,17 +37,16 @@ impl Recovery {
     pub fn step<M: WordMemory>(&mut self, layout: &Layout, memory: &mut M) -> Noted<bool>
         requires room { size_of layout.now ≤ length (M.words memory.old).cached }
         requires point { IsPoint layout.now self.old.at }
-        requires read { let s = layout.now in let access = access_of s.kind self.old.at in
-            IsReadInRange s access (value_found s access (M.words memory.old)) }
+        requires read { let s = layout.now in
+            FindsInRange s (access_of s.kind self.old.at) (M.words memory.old) }
         requires asked { let s = layout.now in
             IsAskedFor s (access_of s.kind self.old.at) (M.lent memory.old).request }
         ensures one_access { let s = layout.now in
             M.words memory.new ≡ after_one s (access_of s.kind self.old.at) (M.words memory.old) }
         ensures lent { let s = layout.now in
             M.lent memory.new ≡ lent_after_one s (access_of s.kind self.old.at) (M.lent memory.old) }
-        ensures next { let s = layout.now in let access = access_of s.kind self.old.at in
-            recovery_reached result.answer self.new
-            ≡ recovery_after s self.old (value_found s access (M.words memory.old)) }
+        ensures next { recovery_reached result.answer self.new
+            ≡ recovery_next layout.now self.old (M.words memory.old) }
         ensures change { let s = layout.now in
             result.change ≡ change_by s (access_of s.kind self.old.at) (M.words memory.old) }
     {

@@ -3,15 +3,14 @@ use Rattle.std.specs.Prelude.{◌≡◌, ◌≢◌, ℕ, ◌+◌, ◌-◌, ◌<�
 use Rattle.std.specs.List.{range_with_len}
 use Rattle.words.specs.declared.refusal.Refusal.{Refusal}
 use Rattle.words.specs.declared.refusal.Refusal.TheVariants.{NoMemory, NoQueue, NoRoom}
-use Rattle.arena.specs.Broker.{block_from, block_in, block_size_of}
-use Rattle.arena.specs.Form.{running}
+use Rattle.arena.specs.Broker.{block_from, block_size_of}
 use Rattle.arena.specs.Shape.{Counts, shape_of}
 use Rattle.arena.specs.declared.broker.TheConstants.{SLOTS}
 use Rattle.directory.specs.Directory.{HasQueue}
 use Rattle.directory.specs.Queue.{directory_of}
 use Rattle.directory.specs.Sound.{AreBrokerWords, counts_in}
 use Rattle.directory.specs.declared.queue.Queue.{Queue}
-use Rattle.renewal.specs.Broker.{BlockFits, slot_block_renewed}
+use Rattle.renewal.specs.Broker.{BlockFits, slot_block, slot_block_renewed}
 use Rattle.renewal.specs.Words.{IsRenewalOf}
 
 -- so many words from this one on
@@ -36,10 +35,10 @@ pub record IsQueueRenewalOf (old : List ℕ) (slot : ℕ) (new : List ℕ) : Typ
   pub directory : directory_of new ≡ directory_of old
   pub queue : Queue
   pub has : HasQueue (directory_of old) slot queue
-  pub renewed : IsRenewalOf (shape_of queue.kind (counts_in old)) (block_in running (counts_in old) slot old)
-      (shape_of queue.kind (counts_in old)) (block_in running (counts_in old) slot new)
+  pub renewed : IsRenewalOf (shape_of queue.kind (counts_in old)) (slot_block (counts_in old) slot old)
+      (shape_of queue.kind (counts_in old)) (slot_block (counts_in old) slot new)
   pub others : (other : ℕ) → other < SLOTS → other ≢ slot
-      → block_in running (counts_in old) other new ≡ block_in running (counts_in old) other old
+      → slot_block (counts_in old) other new ≡ slot_block (counts_in old) other old
 
 -- why the words are not written so, the first reason that applies
 abbrev pub IsWhyNotRenewed : List ℕ → ℕ → Refusal → Type 0

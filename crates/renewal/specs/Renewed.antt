@@ -1,5 +1,5 @@
 -- The words of a queue in fresh records, place by place.
-use Rattle.std.specs.Prelude.{ℕ, ◌+◌, Bool, true, false, List, [], ◌∷◌, ◌++◌, length, map, filter, nat_lt, Option, Some, None, is_some, unwrap_or, if◌then◌else◌, ◌==◌}
+use Rattle.std.specs.Prelude.{◌≡◌, ℕ, ◌+◌, ◌<◌, Bool, true, false, List, [], ◌∷◌, ◌++◌, length, map, filter, nat_lt, slice_index, Option, Some, None, is_some, unwrap_or, if◌then◌else◌, ◌==◌}
 use Rattle.std.specs.List.{range_with_len}
 use Rattle.words.specs.PlainQueue.{Value}
 use Rattle.words.specs.declared.call.Reply.TheVariants.{Done, Got, Empty}
@@ -33,6 +33,10 @@ told_node _ = None
 abbrev pub has_node : Renewal → ℕ → Bool
 has_node r t = is_some (told_node (told_in r t))
 
+-- that node, if there is one
+abbrev pub node_of : Renewal → ℕ → List ℕ
+node_of r t = if has_node r t then first_record r.shape t ∷ [] else []
+
 -- the chain: those nodes, which are claimed, by their clients, and then those of the items
 abbrev pub removed : Renewal → List ℕ
 removed r = map (first_record r.shape) (filter (has_node r) (range_with_len 0 r.shape.clients))
@@ -47,6 +51,10 @@ chain r = removed r ++ waiting r
 abbrev pub follower : ℕ → ℕ → List ℕ → ℕ
 follower n from [] = 0
 follower n from (x ∷ xs) = if n == from then x else follower n x xs
+
+-- so this list says of the node `n`
+abbrev pub SaysFollower : List ℕ → List ℕ → ℕ → Type 0
+SaysFollower links nodes n = (n < length links) × (slice_index links n ≡ follower n 0 nodes)
 
 -- whether the node is on the chain, its message, and the record that claims it
 abbrev pub is_linked : Renewal → Role → Bool

@@ -1,5 +1,5 @@
 -- What may be written in fresh records, and the block of words that it becomes.
-use Rattle.std.specs.Prelude.{◌≡◌, ℕ, ◌+◌, ◌*◌, ◌<◌, ◌≤◌, List, length, map, slice_index, Option, Some, None}
+use Rattle.std.specs.Prelude.{◌≡◌, ℕ, ◌+◌, ◌*◌, ◌≤◌, List, length, map, Option, Some, None}
 use Rattle.std.specs.List.{range_with_len}
 use Rattle.words.specs.PlainQueue.{FitsValue}
 use Rattle.words.specs.declared.call.Kind.{Kind}
@@ -26,7 +26,7 @@ use Rattle.sound_words.specs.Sound.{AreSoundWords}
 use Rattle.sound_words.specs.Told.{no_call}
 use Rattle.sound_words.specs.Told.{tells_by, told_by}
 use Rattle.renewal.specs.Renewal.{Renewal, item_in, told_in}
-use Rattle.renewal.specs.Renewed.{chain, follower, renewed}
+use Rattle.renewal.specs.Renewed.{SaysFollower, chain, renewed}
 use Rattle.renewal.specs.Roles.{used_for}
 
 -- so many items fit into fresh records of this shape: beside one record for each, each client needs two
@@ -63,11 +63,14 @@ pub record MayBeRenewed (r : Renewal) : Type 0 where
   pub items : (at : ℕ) → FitsValue (item_in r at)
   pub told : (t : ℕ) → MayBeTold r.shape.kind (told_in r t)
 
+-- of each of its nodes this list says what follows it on the chain
+abbrev pub AreLinksOf : Renewal → List ℕ → Type 0
+AreLinksOf r links = (n : ℕ) → IsNode r.shape n → SaysFollower links (chain r) n
+
 -- such a queue, and of each of its nodes what follows it on the chain
 pub record IsFresh (r : Renewal) (links : List ℕ) : Type 0 where
   pub may : MayBeRenewed r
-  pub follows : (n : ℕ) → IsNode r.shape n
-      → (n < length links) × (slice_index links n ≡ follower n 0 (chain r))
+  pub follows : AreLinksOf r links
 
 -- a client that is to be told nothing is told so by the kind of the queue
 abbrev pub told_anew : Kind → Told → Told
@@ -90,6 +93,14 @@ block_renewed r = map (word_renewed r) (range_with_len 0 (block_size_of r.shape.
 abbrev pub renewal_of : Shape → Shape → (Place → ℕ) → Renewal
 renewal_of to s kept = record { shape = to; content = kept_content s kept; tells = tells_by s kept }
 
+-- so a block of words of one shape becomes one of another
+abbrev pub words_renewed : Shape → Shape → List ℕ → List ℕ
+words_renewed to s old = block_renewed (renewal_of to s (kept_in s old))
+
+-- the items that it holds fit there
+abbrev pub ItemsFit : Shape → Shape → List ℕ → Type 0
+ItemsFit to s old = FitFresh to (length (kept_content s (kept_in s old)))
+
 -- they may be: the queue becomes one of the same kind, with as many clients or more, and its items fit
 pub record MayBecome (s : Shape) (old : List ℕ) (to : Shape) : Type 0 where
   pub sound : AreSoundWords s old
@@ -97,7 +108,7 @@ pub record MayBecome (s : Shape) (old : List ℕ) (to : Shape) : Type 0 where
   pub new_counts : AreCounts to.clients to.records
   pub kind : to.kind ≡ s.kind
   pub clients : s.clients ≤ to.clients
-  pub room : FitFresh to (length (kept_content s (kept_in s old)))
+  pub room : ItemsFit to s old
 
 -- new words of this shape are sound and have the queue of the old ones: they hold the same items in the same order,
 -- tell each client the same, and clients that were not there that they made no call; and few records are used

@@ -1,12 +1,10 @@
 //! The words of a queue's block, written anew.
 
-ghost use Rattle.std.specs.Prelude.{◌≡◌, ◌↔◌, ◌⊎◌, ◌≤◌, ◌+◌, ◌*◌, ◌^◌, IfOk, IfErr, IsTrue, OnOk, Err, length};
-ghost use Rattle.arena.specs.Content.{kept_content};
+ghost use Rattle.std.specs.Prelude.{◌≡◌, ◌↔◌, ◌⊎◌, ◌≤◌, ◌+◌, ◌*◌, ◌^◌, IfOk, IfErr, IsTrue, OnOk, Err};
 ghost use Rattle.arena.specs.Limits.{AreCounts};
 ghost use Rattle.arena.specs.Shape.{greatest};
-ghost use Rattle.sound_words.specs.Kept.{kept_in};
 ghost use Rattle.sound_words.specs.Sound.{AreSoundWords};
-ghost use Rattle.renewal.specs.Words.{FitFresh, IsRenewalOf, block_renewed, renewal_of};
+ghost use Rattle.renewal.specs.Words.{FitFresh, IsRenewalOf, ItemsFit, words_renewed};
 
 use crate::fresh::fresh_block;
 use arena::Layout;
@@ -35,12 +33,11 @@ pub fn renewed_block<W: KeptWords>(
     requires kind { to.now.kind ≡ layout.now.kind }
     requires clients { layout.now.clients ≤ to.now.clients }
     ensures renewed { IfOk result (λ words. words.items
-        ≡ block_renewed (renewal_of to.now layout.now (kept_in layout.now (W.kept_words block.now)))) }
+        ≡ words_renewed to.now layout.now (W.kept_words block.now)) }
     ensures same { IfOk result (λ words. IsRenewalOf layout.now (W.kept_words block.now) to.now words.items) }
-    ensures room { OnOk result
-        (FitFresh to.now (length (kept_content layout.now (kept_in layout.now (W.kept_words block.now))))) }
+    ensures room { OnOk result (ItemsFit to.now layout.now (W.kept_words block.now)) }
     ensures no_room { result ≡ Err Refusal.NoRoom
-        ↔ (FitFresh to.now (length (kept_content layout.now (kept_in layout.now (W.kept_words block.now)))) → ⊥) }
+        ↔ ¬ ItemsFit to.now layout.now (W.kept_words block.now) }
     ensures errors { IfErr result (λ e. (e ≡ Refusal.NoRoom) ⊎ (e ≡ Refusal.NoMemory)) }
 {
     let fresh = fresh_block(alloc, layout, block, to)?;

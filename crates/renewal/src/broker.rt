@@ -1,21 +1,18 @@
 //! The words of a whole broker, each queue in fresh records.
 
-ghost use Rattle.std.specs.Prelude.{◌≡◌, ◌↔◌, ◌⊎◌, ◌++◌, ℕ, ◌<◌, ◌≤◌, IfErr, IfOk, IfSome, IsTrue, OnOk, Err, length};
-ghost use Rattle.std.specs.List.{flat_map, range_with_len};
-ghost use Rattle.arena.specs.Broker.{block_in, broker_size};
-ghost use Rattle.arena.specs.Form.{running};
+ghost use Rattle.std.specs.Prelude.{◌≡◌, ◌↔◌, ◌⊎◌, ◌++◌, ◌<◌, ◌≤◌, IfErr, IfOk, IfSome, IsTrue, OnOk, Err, length};
+ghost use Rattle.arena.specs.Broker.{broker_size};
 ghost use Rattle.arena.specs.Limits.{AreCounts};
-ghost use Rattle.arena.specs.Shape.{shape_of};
-ghost use Rattle.sound_words.specs.Sound.{AreSoundWords};
-ghost use Rattle.directory.specs.Sound.{counts_in};
 ghost use Rattle.renewal.specs.Broker.{
-  BlockFits,
+  AllFit,
+  HasSoundBlock,
   IsBrokerRenewalOf,
   MayBeRenewedTo,
   SlotFits,
+  blocks_renewed,
   broker_renewed,
   front_renewed,
-  slot_block_renewed,
+  slot_block,
   slot_renewed,
 };
 
@@ -57,14 +54,13 @@ pub(crate) fn slot_words(
     requires room { broker_size layout.now ≤ length memory.now.words.cached }
     requires kept { broker_size layout.now ≤ length memory.now.words.kept }
     requires clients { layout.now.clients ≤ to.now.clients }
-    requires sound { IfSome queue.now (λ queue. AreSoundWords (shape_of queue.kind layout.now)
-        (block_in running layout.now slot.0 memory.now.words.kept)) }
+    requires sound { IfSome queue.now (HasSoundBlock layout.now slot.0 memory.now.words.kept) }
     ensures words { IfOk result (λ words. words.items
-        ≡ slot_renewed to.now layout.now queue.now (block_in running layout.now slot.0 memory.now.words.kept)) }
+        ≡ slot_renewed to.now layout.now queue.now (slot_block layout.now slot.0 memory.now.words.kept)) }
     ensures room { OnOk result
-        (SlotFits to.now layout.now queue.now (block_in running layout.now slot.0 memory.now.words.kept)) }
+        (SlotFits to.now layout.now queue.now (slot_block layout.now slot.0 memory.now.words.kept)) }
     ensures no_room { result ≡ Err Refusal.NoRoom
-        → SlotFits to.now layout.now queue.now (block_in running layout.now slot.0 memory.now.words.kept) → ⊥ }
+        → ¬ SlotFits to.now layout.now queue.now (slot_block layout.now slot.0 memory.now.words.kept) }
     ensures errors { IfErr result (λ e. (e ≡ Refusal.NoRoom) ⊎ (e ≡ Refusal.NoMemory)) }
 {
     let Some(queue) = queue else {
@@ -93,10 +89,9 @@ fn slot_fits(
     requires slot { slot.0 < SLOTS }
     requires room { broker_size layout.now ≤ length memory.now.words.cached }
     requires kept { broker_size layout.now ≤ length memory.now.words.kept }
-    requires sound { IfSome queue.now (λ queue. AreSoundWords (shape_of queue.kind layout.now)
-        (block_in running layout.now slot.0 memory.now.words.kept)) }
+    requires sound { IfSome queue.now (HasSoundBlock layout.now slot.0 memory.now.words.kept) }
     ensures { IsTrue result
-        ↔ SlotFits to.now layout.now queue.now (block_in running layout.now slot.0 memory.now.words.kept) }
+        ↔ SlotFits to.now layout.now queue.now (slot_block layout.now slot.0 memory.now.words.kept) }
 {
     let Some(queue) = queue else {
         return true;
@@ -112,7 +107,7 @@ fn slot_fits(
 /// Whether the items of all queues fit.
 fn do_all_fit(kept: &KeptBroker, memory: &Memory, to: &BrokerLayout) -> bool
     requires { MayBeRenewedTo memory.now.words kept.now.layout kept.now.directory to.now }
-    ensures { IsTrue result ↔ ((slot : ℕ) → slot < SLOTS → BlockFits to.now memory.now.words.kept slot) }
+    ensures { IsTrue result ↔ AllFit to.now memory.now.words.kept }
 {
     let places = kept.directory.queues();
     for slot in 0..SLOTS {
@@ -132,12 +127,9 @@ fn add_blocks(
     words: &mut Vec<u64>,
 ) -> Result<(), Refusal>
     requires { MayBeRenewedTo memory.now.words kept.now.layout kept.now.directory to.now }
-    ensures words { OnOk result (words.new.items ≡ words.old.items
-        ++ flat_map (slot_block_renewed to.now (counts_in memory.now.words.kept) memory.now.words.kept)
-        (range_with_len 0 SLOTS)) }
-    ensures room { OnOk result ((slot : ℕ) → slot < SLOTS → BlockFits to.now memory.now.words.kept slot) }
-    ensures no_room { result ≡ Err Refusal.NoRoom
-        → ((slot : ℕ) → slot < SLOTS → BlockFits to.now memory.now.words.kept slot) → ⊥ }
+    ensures words { OnOk result (words.new.items ≡ words.old.items ++ blocks_renewed to.now memory.now.words.kept) }
+    ensures room { OnOk result (AllFit to.now memory.now.words.kept) }
+    ensures no_room { result ≡ Err Refusal.NoRoom → ¬ AllFit to.now memory.now.words.kept }
     ensures errors { IfErr result (λ e. (e ≡ Refusal.NoRoom) ⊎ (e ≡ Refusal.NoMemory)) }
 {
     let places = kept.directory.queues();
@@ -165,8 +157,7 @@ pub fn renewed_broker(
     requires { MayBeRenewedTo memory.now.words kept.now.layout kept.now.directory to.now }
     ensures renewed { IfOk result (λ words. words.items ≡ broker_renewed to.now memory.now.words.kept) }
     ensures same { IfOk result (λ words. IsBrokerRenewalOf memory.now.words.kept to.now words.items) }
-    ensures no_room { result ≡ Err Refusal.NoRoom
-        ↔ (((slot : ℕ) → slot < SLOTS → BlockFits to.now memory.now.words.kept slot) → ⊥) }
+    ensures no_room { result ≡ Err Refusal.NoRoom ↔ ¬ AllFit to.now memory.now.words.kept }
     ensures errors { IfErr result (λ e. (e ≡ Refusal.NoRoom) ⊎ (e ≡ Refusal.NoMemory)) }
 {
     if !do_all_fit(kept, memory, to) {

@@ -1,10 +1,10 @@
 //! The chain of a renewed queue, and its links.
 
-ghost use Rattle.std.specs.Prelude.{◌≡◌, ◌∷◌, ◌++◌, ℕ, ◌<◌, IfOk, OnOk, if◌then◌else◌, [], length, slice_index};
+ghost use Rattle.std.specs.Prelude.{◌≡◌, ◌∷◌, ◌++◌, ℕ, ◌<◌, IfOk, OnOk};
 ghost use Rattle.arena.specs.Chain.{IsAmong, IsChain};
-ghost use Rattle.arena.specs.Place.{IsClient, IsNode};
-ghost use Rattle.renewal.specs.Renewed.{chain, follower, has_node, removed, waiting};
-ghost use Rattle.renewal.specs.Roles.{first_record};
+ghost use Rattle.arena.specs.Place.{IsClient};
+ghost use Rattle.renewal.specs.Renewed.{SaysFollower, chain, follower, node_of, removed, waiting};
+ghost use Rattle.renewal.specs.Words.{AreLinksOf};
 
 use crate::renewal::Renewal;
 use std::alloc::{AllocError, Global};
@@ -14,8 +14,7 @@ impl Renewal<'_> {
     /// Adds the client's node, if one stands for the call that it was told of.
     fn add_node(&self, client: Client, nodes: &mut Vec<u32>) -> Result<(), AllocError>
         requires { IsClient self.now.shape client.0 }
-        ensures { OnOk result (nodes.new.items ≡ nodes.old.items
-            ++ (if has_node self.now client.0 then first_record self.now.shape client.0 ∷ [] else [])) }
+        ensures { OnOk result (nodes.new.items ≡ nodes.old.items ++ node_of self.now client.0) }
     {
         if self.has_node(client) {
             nodes.push(self.first_record(client))?;
@@ -55,8 +54,7 @@ impl Renewal<'_> {
 
     /// Of each node what follows it on the chain, or 0.
     pub(crate) fn links(&self, alloc: Global) -> Result<Vec<u32>, AllocError>
-        ensures { IfOk result (λ links. (n : ℕ) → IsNode self.now.shape n
-            → (n < length links.items) × (slice_index links.items n ≡ follower n 0 (chain self.now))) }
+        ensures { IfOk result (λ links. AreLinksOf self.now links.items) }
     {
         let chain = self.chain(alloc)?;
         let links = links_of(alloc, &chain, self.greatest() + 1)?;
@@ -68,8 +66,7 @@ impl Renewal<'_> {
 fn links_of(alloc: Global, nodes: &[u32], count: usize) -> Result<Vec<u32>, AllocError>
     requires chain { IsChain (λ n. follower n 0 nodes.now) 0 nodes.now }
     requires within { (n : ℕ) → IsAmong n (0 ∷ nodes.now) → n < count }
-    ensures { IfOk result (λ links. (n : ℕ) → n < count
-        → (n < length links.items) × (slice_index links.items n ≡ follower n 0 nodes.now)) }
+    ensures { IfOk result (λ links. (n : ℕ) → n < count → SaysFollower links.items nodes.now n) }
 {
     let mut links = vec![in alloc; 0; count]?;
     let mut last = 0usize;

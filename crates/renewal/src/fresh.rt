@@ -1,12 +1,8 @@
 //! The words of a queue's block in fresh records, each worked out where it is looked at.
 
-ghost use Rattle.std.specs.Prelude.{◌≡◌, ◌↔◌, ◌⊎◌, ◌≤◌, ◌<◌, ℕ, IfOk, IfErr, OnOk, Err, length, slice_index};
-ghost use Rattle.arena.specs.Content.{kept_content};
-ghost use Rattle.arena.specs.Place.{IsNode};
-ghost use Rattle.sound_words.specs.Kept.{kept_in};
+ghost use Rattle.std.specs.Prelude.{◌≡◌, ◌↔◌, ◌⊎◌, ◌≤◌, IfOk, IfErr, OnOk, Err};
 ghost use Rattle.sound_words.specs.Sound.{AreSoundWords};
-ghost use Rattle.renewal.specs.Renewed.{chain, follower};
-ghost use Rattle.renewal.specs.Words.{FitFresh, IsRenewalOf, MayBeRenewed, block_renewed, renewal_of, word_renewed};
+ghost use Rattle.renewal.specs.Words.{AreLinksOf, IsRenewalOf, ItemsFit, MayBeRenewed, block_renewed, word_renewed, words_renewed};
 
 use crate::block::fits;
 use crate::content::{content, count};
@@ -53,8 +49,7 @@ impl Model for FreshBlock {
 
 /// What a word of the block becomes, or 0 past the queue's. Of each node `links` says what follows it on the chain.
 fn word_at(renewal: &Renewal<'_>, links: &[u32], word: usize) -> u64
-    requires { (n : ℕ) → IsNode renewal.now.shape n
-        → (n < length links.now) × (slice_index links.now n ≡ follower n 0 (chain renewal.now)) }
+    requires { AreLinksOf renewal.now links.now }
     ensures { result ≡ word_renewed renewal.now word }
 {
     match renewal.layout.what_is(word) {
@@ -139,12 +134,11 @@ pub fn fresh_block<W: KeptWords>(
     requires kind { to.now.kind ≡ layout.now.kind }
     requires clients { layout.now.clients ≤ to.now.clients }
     ensures renewed { IfOk result (λ fresh. fresh
-        ≡ block_renewed (renewal_of to.now layout.now (kept_in layout.now (W.kept_words block.now)))) }
+        ≡ words_renewed to.now layout.now (W.kept_words block.now)) }
     ensures same { IfOk result (λ fresh. IsRenewalOf layout.now (W.kept_words block.now) to.now fresh) }
-    ensures room { OnOk result
-        (FitFresh to.now (length (kept_content layout.now (kept_in layout.now (W.kept_words block.now))))) }
+    ensures room { OnOk result (ItemsFit to.now layout.now (W.kept_words block.now)) }
     ensures no_room { result ≡ Err Refusal.NoRoom
-        ↔ (FitFresh to.now (length (kept_content layout.now (kept_in layout.now (W.kept_words block.now)))) → ⊥) }
+        ↔ ¬ ItemsFit to.now layout.now (W.kept_words block.now) }
     ensures errors { IfErr result (λ e. (e ≡ Refusal.NoRoom) ⊎ (e ≡ Refusal.NoMemory)) }
 {
     let queue = KeptQueue::new(layout, block);

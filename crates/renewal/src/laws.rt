@@ -4,12 +4,11 @@ ghost use Rattle.std.specs.Prelude.{◌≡◌, ℕ, List};
 ghost use Rattle.arena.specs.Content.{kept_content};
 ghost use Rattle.arena.specs.Place.{IsClient};
 ghost use Rattle.arena.specs.Shape.{Shape};
-ghost use Rattle.sound_words.specs.Kept.{kept_in};
 ghost use Rattle.sound_words.specs.Sound.{IsSound};
 ghost use Rattle.sound_words.specs.Told.{told_by};
 ghost use Rattle.renewal.specs.Renewal.{Renewal, told_in};
 ghost use Rattle.renewal.specs.Renewed.{renewed};
-ghost use Rattle.renewal.specs.Words.{IsRenewalOf, MayBeRenewed, MayBecome, block_renewed, renewal_of, told_anew};
+ghost use Rattle.renewal.specs.Words.{IsRenewalOf, MayBeRenewed, MayBecome, told_anew, words_renewed};
 
 /// Words in fresh records obey every rule, hold the items that they are to hold, in this order, and tell each client
 /// what it is to be told.
@@ -24,5 +23,5 @@ pub fn renewed_words_hold_and_tell()
 /// same items in the same order, and tells each client the same.
 pub fn renewed_block_has_the_queue()
     ensures { (s : Shape) (old : List ℕ) (to : Shape) → MayBecome s old to
-        → IsRenewalOf s old to (block_renewed (renewal_of to s (kept_in s old))) }
+        → IsRenewalOf s old to (words_renewed to s old) }
 {}

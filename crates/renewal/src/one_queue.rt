@@ -1,13 +1,10 @@
 //! The words of a whole broker, one queue in fresh records.
 
 ghost use Rattle.std.specs.Prelude.{◌≡◌, ◌+◌, ◌<◌, ◌≤◌, ◌⊎◌, Err, IfErr, IfOk, OnOk, Some, length};
-ghost use Rattle.arena.specs.Broker.{block_from, block_in, broker_size};
-ghost use Rattle.arena.specs.Form.{running};
-ghost use Rattle.arena.specs.Shape.{shape_of};
-ghost use Rattle.sound_words.specs.Sound.{AreSoundWords};
+ghost use Rattle.arena.specs.Broker.{block_from, broker_size};
 ghost use Rattle.directory.specs.Sound.{counts_in};
 ghost use Rattle.persist.specs.Memory.{overwritten};
-ghost use Rattle.renewal.specs.Broker.{BlockFits, MayBeRenewedTo, SlotFits, slot_renewed};
+ghost use Rattle.renewal.specs.Broker.{BlockFits, HasSoundBlock, MayBeRenewedTo, SlotFits, slot_block, slot_renewed};
 ghost use Rattle.renewal.specs.OneQueue.{IsQueueRenewalOf, IsWhyNotRenewed, queue_renewed};
 
 use crate::fresh::{FreshBlock, fresh_block};
@@ -28,14 +25,13 @@ fn fresh_in(
     requires slot { slot.0 < SLOTS }
     requires room { broker_size layout.now ≤ length memory.now.words.cached }
     requires kept { broker_size layout.now ≤ length memory.now.words.kept }
-    requires sound { AreSoundWords (shape_of queue.now.kind layout.now)
-        (block_in running layout.now slot.0 memory.now.words.kept) }
-    ensures words { IfOk result (λ block. block ≡ slot_renewed layout.now layout.now (Some queue.now)
-        (block_in running layout.now slot.0 memory.now.words.kept)) }
-    ensures room { OnOk result (SlotFits layout.now layout.now (Some queue.now)
-        (block_in running layout.now slot.0 memory.now.words.kept)) }
-    ensures no_room { result ≡ Err Refusal.NoRoom → SlotFits layout.now layout.now (Some queue.now)
-        (block_in running layout.now slot.0 memory.now.words.kept) → ⊥ }
+    requires sound { HasSoundBlock layout.now slot.0 memory.now.words.kept queue.now }
+    ensures words { IfOk result (λ block. block
+        ≡ slot_renewed layout.now layout.now (Some queue.now) (slot_block layout.now slot.0 memory.now.words.kept)) }
+    ensures room { OnOk result
+        (SlotFits layout.now layout.now (Some queue.now) (slot_block layout.now slot.0 memory.now.words.kept)) }
+    ensures no_room { result ≡ Err Refusal.NoRoom
+        → ¬ SlotFits layout.now layout.now (Some queue.now) (slot_block layout.now slot.0 memory.now.words.kept) }
     ensures errors { IfErr result (λ e. (e ≡ Refusal.NoRoom) ⊎ (e ≡ Refusal.NoMemory)) }
 {
     let Ok(block) = memory.view(layout.block(slot), layout.block_size()) else {

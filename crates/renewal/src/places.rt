@@ -1,16 +1,14 @@
 //! The words of the places of a queue in fresh records.
 
-ghost use Rattle.std.specs.Prelude.{◌≡◌, ◌≤◌, ◌<◌, ℕ, [], if◌then◌else◌, length, slice_index, unwrap_or};
-ghost use Rattle.arena.specs.Place.{IsClient, IsNode, IsPlace};
+ghost use Rattle.std.specs.Prelude.{◌≡◌, ◌≤◌, ◌<◌, [], if◌then◌else◌, length, unwrap_or};
+ghost use Rattle.arena.specs.Place.{IsClient, IsPlace};
 ghost use Rattle.arena.specs.Words.{item_part};
 ghost use Rattle.renewal.specs.Renewal.{told_in};
 ghost use Rattle.renewal.specs.Renewed.{
   announced,
   cell,
-  chain,
   entry_kind,
   entry_node,
-  follower,
   is_linked,
   mark,
   message,
@@ -21,6 +19,7 @@ ghost use Rattle.renewal.specs.Renewed.{
   status,
 };
 ghost use Rattle.renewal.specs.Roles.{IsRole, used_for};
+ghost use Rattle.renewal.specs.Words.{AreLinksOf};
 
 use crate::renewal::Renewal;
 use crate::role::{Role, role_of};
@@ -220,8 +219,7 @@ impl Renewal<'_> {
     /// The word of a place. Of each node `links` says what follows it on the chain.
     pub(crate) fn word_of(&self, links: &[u32], place: Place) -> u64
         requires place { IsPlace self.now.shape place }
-        requires links { (n : ℕ) → IsNode self.now.shape n
-            → (n < length links.now) × (slice_index links.now n ≡ follower n 0 (chain self.now)) }
+        requires links { AreLinksOf self.now links.now }
         ensures { result ≡ renewed self.now place }
     {
         match place {

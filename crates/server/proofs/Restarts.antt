@@ -27,11 +27,12 @@ use Rattle.named.specs.KeptQueues.{IsKeptQueue}
 use Rattle.workers.proofs.Facts.{session_further}
 use Rattle.journal_file.specs.OnDevice.{OnDevice}
 use Rattle.lasting.specs.Lasting.{HasMoments, ReadsLater, ReadsMoment}
-use Rattle.desk.specs.Telling.{IsReplied, RanNumbered}
+use Rattle.workers.specs.Marks.{RanNumbered}
+use Rattle.desk.specs.Telling.{IsReplied}
 use Rattle.desk.specs.declared.calls.Asked.{Asked}
 use Rattle.server.specs.Image.{IsOpenedOver}
 use Rattle.server.specs.Opening.{IsOpened, IsQueueOpened}
-use Rattle.server.specs.Restarting.{words_read, AreSettledBy, GoesOnFrom, IsRestartedFrom, LivesOn}
+use Rattle.server.specs.Restarting.{words_read, AreSettledBy, GoesOnFrom, IsReopenedFrom, IsRestartedFrom, LivesOn}
 use Rattle.server.specs.Restarting.LivesOn.{restarted, within}
 use Rattle.named.proofs.Facts.{kept_queue}
 
@@ -118,17 +119,17 @@ module _ (first : Sessioned) (key base : List ℕ) (batches : List Batch) (count
       session_further (session few) (session reads.whole) next (reads.later few among).numbers
       (session_goes_on (session reads.whole) next b reads.moment.promises last_goes_on over)
 
-pub settled_still : (first : Sessioned) (key base : List ℕ) (batches : List Batch) (count : ℕ) (session : ℕ → Sessioned)
-    (left : List ℕ) (b : Brokered) (few : ℕ) (reads : ReadsMoment first key base batches count session left)
-    → IsOpened (words_at_rest (words_after (take reads.whole batches) base)) b → few ≤ reads.whole
-    → AreSettledBy (session few) b
-settled_still first key base batches count session left b few reads o among =
-    still_settled first key base batches count session left reads b o few among
+pub settled_still : (earlier : Sessioned) (b : Brokered) → IsReopenedFrom earlier b → AreSettledBy earlier b
+settled_still earlier b r =
+    subst (λ (s : Sessioned). AreSettledBy s b) r.earlier_is
+    (still_settled r.first r.key r.base r.batches r.count r.session r.left r.reads b r.opened r.few r.among)
 
 pub restart_goes_on : (earlier next : Sessioned) → IsRestartedFrom earlier next → SessionGoesOn earlier next
-restart_goes_on earlier next r =
+restart_goes_on earlier next is =
+    let r : IsReopenedFrom earlier is.broker = is.reopened in
     subst (λ (s : Sessioned). SessionGoesOn s next) r.earlier_is
-    (restarted_on r.first r.key r.base r.batches r.count r.session r.left r.reads r.broker r.opened r.few r.among next r.over)
+    (restarted_on r.first r.key r.base r.batches r.count r.session r.left r.reads is.broker r.opened r.few r.among next
+    is.over)
 
 -- over several lives
 pub lives_go_on : (earlier now : Sessioned) → LivesOn earlier now → SessionGoesOn earlier now

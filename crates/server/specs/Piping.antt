@@ -1,7 +1,11 @@
 -- What was served of an input of JSON lines, where nothing had been served before.
-use Rattle.std.specs.Prelude.{◌≡◌, ◌⊎◌, ℕ, Bool, List, [], Option}
+use Rattle.std.specs.Prelude.{◌≡◌, ◌⊎◌, ℕ, Bool, false, true, List, [], Option}
 use Rattle.words.specs.declared.refusal.Refusal.{Refusal}
 use Rattle.words.specs.declared.refusal.Refusal.TheVariants.{Busy, NoMemory, ReadFailed, WriteFailed}
+use Rattle.std.specs.Io.KnownBytes.{Appends}
+use Rattle.devices.specs.Devices.{AppendsBeginning}
+use Rattle.devices.specs.declared.device.Reader.{Ghosts as Reader}
+use Rattle.devices.specs.declared.device.Writer.{Ghosts as Writer}
 use Rattle.engine.specs.Lines.{lines_of}
 use Rattle.engine.specs.Replies.{Served, output_of}
 use Rattle.engine.specs.Serving.{HasInput, Serves, ServesWhatWasRead}
@@ -22,6 +26,23 @@ ServesInput whole input IsWritten made =
 abbrev pub ServesInputRead : Option (List ℕ) → Option (List ℕ) → (List ℕ → Type 0) → Served → Type 0
 ServesInputRead input left IsWritten made =
     HasInput input (λ text. ServesWhatWasRead meaning text left [] made (λ replies. IsWritten (output_of replies)))
+
+-- a reader and a writer before and after
+module _ {R W : Type 0} (reader : Reader R) (writer : Writer W) where
+  -- The lines of all that the reader had left have their replies, whose text was written: these requests were made.
+  abbrev pub PipesAll : R → W → W → Served → Type 0
+  PipesAll from old new made =
+      ServesInput true (reader.left from) (Appends (writer.written old) (writer.written new)) made
+
+  -- The first of them have, and a beginning of their text was written.
+  abbrev pub PipesSome : R → W → W → Served → Type 0
+  PipesSome from old new made =
+      ServesInput false (reader.left from) (AppendsBeginning (writer.written old) (writer.written new)) made
+
+  -- The whole lines of what was read have.
+  abbrev pub PipesRead : R → R → W → W → Served → Type 0
+  PipesRead from to old new made =
+      ServesInputRead (reader.left from) (reader.left to) (Appends (writer.written old) (writer.written new)) made
 
 -- Requests were made, one after another, of a session over the broker, which came to another one by them; each was
 -- answered as that says, with an answer that it may have. What was settled stays so, no number took effect twice, and

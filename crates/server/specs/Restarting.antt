@@ -13,6 +13,9 @@ use Rattle.session.specs.Keeping.{IsSettled, told_when_asked}
 use Rattle.session.specs.Sessions.{Sessioned, kept_at}
 use Rattle.workers.specs.Moments.{GoesOnLater}
 use Rattle.lasting.specs.Lasting.{HasMoments, ReadsLater, ReadsMoment}
+use Rattle.workers.specs.Marks.{RanNumbered}
+use Rattle.desk.specs.Telling.{IsReplied}
+use Rattle.desk.specs.declared.calls.Asked.{Asked}
 use Rattle.server.specs.Image.{IsOpenedOver}
 use Rattle.server.specs.Opening.{IsOpened, IsQueueOpened}
 
@@ -31,9 +34,9 @@ pub record GoesOnFrom (s : Sessioned) (b : Brokered) : Type 0 where
       → IsQueueOpened w.shape w.words.kept (world_at b slot)
   pub settled : AreSettledBy s b
 
--- a session over the broker that was opened on what a stop left of a journal. The batches that are read of it begin
--- with so many at whose end the earlier session was at a moment
-pub record IsRestartedFrom (earlier next : Sessioned) : Type 0 where
+-- the broker was opened on what a stop left of a journal. The batches that are read of it begin with so many at whose
+-- end the earlier session was at a moment
+pub record IsReopenedFrom (earlier : Sessioned) (b : Brokered) : Type 0 where
   pub first : Sessioned
   pub key : List ℕ
   pub base : List ℕ
@@ -45,8 +48,12 @@ pub record IsRestartedFrom (earlier next : Sessioned) : Type 0 where
   pub few : ℕ
   pub among : few ≤ reads.whole
   pub earlier_is : session few ≡ earlier
+  pub opened : IsOpened (words_at_rest (words_after (take reads.whole batches) base)) b
+
+-- a session over such a broker
+pub record IsRestartedFrom (earlier next : Sessioned) : Type 0 where
   pub broker : Brokered
-  pub opened : IsOpened (words_at_rest (words_after (take reads.whole batches) base)) broker
+  pub reopened : IsReopenedFrom earlier broker
   pub over : IsOpenedOver broker next
 
 -- the session came of the earlier one over several lives: it goes on from there, or from a restart
@@ -59,3 +66,19 @@ pub data LivesOn (earlier : Sessioned) : Sessioned → Type 0 where
 abbrev pub words_read : {first s : Sessioned} {j : OnDevice} {has : HasMoments first j} {bytes : List ℕ}
     → ReadsLater first s j has bytes → Words
 words_read {first} {s} {j} {has} left = words_at_rest (words_after (take left.reads.whole has.batches) has.base)
+
+-- the broker was opened on them, and the session of their moment goes on from this one
+pub record IsReopenedLater (first now : Sessioned) (b : Brokered) : Type 0 where
+  pub j : OnDevice
+  pub has : HasMoments first j
+  pub bytes : List ℕ
+  pub left : ReadsLater first now j has bytes
+  pub opened : IsOpened (words_read left) b
+
+-- each reply that stands in its client's list, at a session from which this one goes on, and whose call ran with a
+-- number in a log queue: by what the broker tells the client, the number is settled with it
+abbrev pub AreRepliesSettledBy : Sessioned → Sessioned → Brokered → Type 0
+AreRepliesSettledBy first now b =
+    (client : Client) (asked : Asked) (reply : Reply) (number : ℕ) (replied : IsReplied first now client asked reply)
+    → RanNumbered replied.session client replied.has.entry number
+    → IsSettled (told_when_asked b replied.has.entry.queue.0 client.0) number reply

@@ -2,7 +2,7 @@
 
 ghost use Rattle.std.specs.Prelude.{◌≡◌, ◌⊎◌, IfErr, IfOk};
 ghost use Rattle.session.specs.Sessions.{IsUncalled};
-ghost use Rattle.workers.specs.Moments.{IsMomentOf};
+ghost use Rattle.workers.specs.Moments.{IsFirstMoment};
 ghost use Rattle.workers.specs.Opening.{IsInUse};
 ghost use Rattle.server.specs.Image.{IsOpenedOver};
 ghost use Rattle.server.specs.Journaled.{IsLeftAfter};
@@ -78,8 +78,7 @@ pub(crate) fn begin_noting(alloc: Global, broker: Broker) -> Result<Noted, Refus
     requires { IsUncalled broker }
     ensures opened { IfOk result (λ noted. IsOpenedOver broker noted.noting.session) }
     ensures words { IfOk result (λ noted. noted.words.items ≡ noted.noting.session.broker.words.kept) }
-    ensures moment { IfOk result
-        (λ noted. IsMomentOf noted.noting.session noted.noting.session noted.noting.session.broker.words.kept) }
+    ensures moment { IfOk result (λ noted. IsFirstMoment noted.noting.session) }
     ensures errors { IfErr result (λ e. (e ≡ Refusal.NoMemory) ⊎ ((e ≡ Refusal.Busy) × IsInUse broker)) }
 {
     let session = Session::open(broker);

@@ -2,7 +2,7 @@
 
 ghost use Rattle.std.specs.Prelude.{◌≡◌, ◌<◌, IfOk};
 ghost use Rattle.session.specs.Sessions.{IsUncalled};
-ghost use Rattle.workers.specs.Moments.{IsMomentOf};
+ghost use Rattle.workers.specs.Moments.{IsFirstMoment};
 ghost use Rattle.workers.specs.Opening.{IsNameOf};
 ghost use Rattle.server.specs.Journaled.{IsLeftAfter, IsLeftBy};
 
@@ -96,7 +96,7 @@ fn served<
 ) -> Result<Left<F>, Unserved>
     requires name { IsNameOf J.roll J.clients J.first noted.noting }
     requires words { noted.words.items ≡ J.first.broker.words.kept }
-    requires moment { IsMomentOf J.first J.first J.first.broker.words.kept }
+    requires moment { IsFirstMoment J.first }
     requires reader { R.failures reader.old < MAX_FAILURES }
     requires writer { W.failures writer.old < MAX_FAILURES }
     ensures { IfOk result (λ left. IsLeftAfter J.first left.image.items left.journal) }

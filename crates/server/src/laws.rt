@@ -1,21 +1,13 @@
 //! What holds of every restart.
 
-ghost use Rattle.std.specs.Prelude.{◌≤◌, List, take, ℕ};
-ghost use Rattle.words.specs.declared.call.Client.{Client};
-ghost use Rattle.words.specs.declared.call.Reply.{Reply};
+ghost use Rattle.std.specs.Prelude.{List, ℕ};
 ghost use Rattle.persist.specs.Memory.{words_at_rest};
-ghost use Rattle.journal.specs.Frame.{Batch};
-ghost use Rattle.journal.specs.Journal.{words_after};
-ghost use Rattle.journal_file.specs.OnDevice.{OnDevice};
 ghost use Rattle.named.specs.Brokers.{Brokered};
-ghost use Rattle.session.specs.Keeping.{IsSettled, SessionGoesOn, told_when_asked};
+ghost use Rattle.session.specs.Keeping.{SessionGoesOn};
 ghost use Rattle.session.specs.Sessions.{Sessioned};
 ghost use Rattle.workers.specs.Moments.{IsMomentOf};
-ghost use Rattle.lasting.specs.Lasting.{HasMoments, ReadsLater, ReadsMoment};
-ghost use Rattle.desk.specs.Telling.{IsReplied, RanNumbered};
-ghost use Rattle.desk.specs.declared.calls.Asked.{Asked};
 ghost use Rattle.server.specs.Opening.{IsOpened};
-ghost use Rattle.server.specs.Restarting.{words_read, AreSettledBy, GoesOnFrom, IsRestartedFrom, LivesOn};
+ghost use Rattle.server.specs.Restarting.{AreRepliesSettledBy, AreSettledBy, GoesOnFrom, IsReopenedFrom, IsReopenedLater, IsRestartedFrom, LivesOn};
 
 use workers::marked_answers_are_told;
 
@@ -30,10 +22,7 @@ pub fn restarts_go_on()
 /// What was settled at the end of any batch that is read of a journal is settled, with its reply, by what its client is
 /// told after the restart: of that batch and of every one before, and so of every one that was kept.
 pub fn settled_numbers_outlast_restarts()
-    ensures { (first : Sessioned) (key base : List ℕ) (batches : List Batch) (count : ℕ) (session : ℕ → Sessioned)
-        (left : List ℕ) (b : Brokered) (few : ℕ) (reads : ReadsMoment first key base batches count session left)
-        → IsOpened (words_at_rest (words_after (take reads.whole batches) base)) b → few ≤ reads.whole
-        → AreSettledBy (session few) b }
+    ensures { (earlier : Sessioned) (b : Brokered) → IsReopenedFrom earlier b → AreSettledBy earlier b }
 {}
 
 /// A session over a restarted broker goes on from that of each batch that is read (`restart`). So numbers that were
@@ -49,11 +38,7 @@ pub fn lives_go_on()
 /// (`lasting::stops_leave_what_was_assured`). By what the broker on these words tells, the number is settled with that
 /// reply.
 pub fn told_replies_outlast_restarts()
-    ensures { (first now : Sessioned) (client : Client) (asked : Asked) (reply : Reply) (number : ℕ)
-        (replied : IsReplied first now client asked reply)
-        → RanNumbered replied.session client replied.has.entry number → (j : OnDevice) (has : HasMoments first j)
-        (bytes : List ℕ) (left : ReadsLater first now j has bytes) (b : Brokered) → IsOpened (words_read left) b
-        → IsSettled (told_when_asked b replied.has.entry.queue.0 client.0) number reply }
+    ensures { (first now : Sessioned) (b : Brokered) → IsReopenedLater first now b → AreRepliesSettledBy first now b }
 {
     marked_answers_are_told();
 }

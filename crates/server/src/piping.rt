@@ -1,13 +1,12 @@
 //! Serving one reader and one writer.
 
-ghost use Rattle.std.specs.Prelude.{◌≡◌, ◌<◌, ◌↔◌, ◌⊎◌, false, true, IfErr, IfOk, IsErrOf, OnOk};
-ghost use Rattle.std.specs.Io.KnownBytes.{Appends};
-ghost use Rattle.devices.specs.Devices.{AppendsBeginning, IsFlushed};
+ghost use Rattle.std.specs.Prelude.{◌≡◌, ◌<◌, ◌↔◌, ◌⊎◌, IfErr, IfOk, IsErrOf, OnOk};
+ghost use Rattle.devices.specs.Devices.{IsFlushed};
 ghost use Rattle.session.specs.Promises.{KeepsNumbers};
 ghost use Rattle.session.specs.Sessions.{IsUncalled};
 ghost use Rattle.workers.specs.Opening.{IsInUse};
 ghost use Rattle.server.specs.Image.{IsOpenedOver};
-ghost use Rattle.server.specs.Piping.{IsServed, LeavesImage, MayEndPipe, MayEndServed, ServesInput, ServesInputRead};
+ghost use Rattle.server.specs.Piping.{IsServed, LeavesImage, MayEndPipe, MayEndServed, PipesAll, PipesRead, PipesSome};
 
 use crate::json_lines::JsonLines;
 use devices::{MAX_FAILURES, Reader, Writer};
@@ -34,17 +33,16 @@ fn served<J: Beginning, T: Wait, R: Reader, W: Writer>(
     requires reader { R.failures reader.old < MAX_FAILURES }
     requires writer { W.failures writer.old < MAX_FAILURES }
     requires opened { IsOpenedOver session.broker session }
-    ensures image { IfOk result (λ bytes. LeavesImage J.first.broker
-        (ServesInput true (R.left reader.old) (Appends (W.written writer.old) (W.written writer.new))) bytes.items) }
+    ensures image { IfOk result (λ bytes.
+        LeavesImage J.first.broker (PipesAll R.Reader W.Writer reader.old writer.old writer.new) bytes.items) }
     ensures flushed { OnOk result (IsFlushed (W.written writer.new) (W.flushed writer.new)) }
     ensures no_memory { IsErrOf result Refusal.NoMemory →
-        ((reader.new ≡ reader.old) × (writer.new ≡ writer.old)) ⊎ IsServed J.first.broker
-        (ServesInput true (R.left reader.old) (Appends (W.written writer.old) (W.written writer.new))) }
-    ensures read_failed { IsErrOf result Refusal.ReadFailed → IsServed J.first.broker
-        (ServesInputRead (R.left reader.old) (R.left reader.new)
-        (Appends (W.written writer.old) (W.written writer.new))) }
-    ensures write_failed { IsErrOf result Refusal.WriteFailed → IsServed J.first.broker
-        (ServesInput false (R.left reader.old) (AppendsBeginning (W.written writer.old) (W.written writer.new))) }
+        ((reader.new ≡ reader.old) × (writer.new ≡ writer.old))
+        ⊎ IsServed J.first.broker (PipesAll R.Reader W.Writer reader.old writer.old writer.new) }
+    ensures read_failed { IsErrOf result Refusal.ReadFailed
+        → IsServed J.first.broker (PipesRead R.Reader W.Writer reader.old reader.new writer.old writer.new) }
+    ensures write_failed { IsErrOf result Refusal.WriteFailed
+        → IsServed J.first.broker (PipesSome R.Reader W.Writer reader.old writer.old writer.new) }
     ensures read_fault { IsErrOf result Refusal.ReadFailed ↔ (R.failures reader.old < R.failures reader.new) }
     ensures write_fault { IsErrOf result Refusal.WriteFailed ↔ (W.failures writer.old < W.failures writer.new) }
     ensures errors { IfErr result MayEndServed }
@@ -78,22 +76,21 @@ pub fn pipe<T: Wait, R: Reader, W: Writer>(
     requires reader { R.failures reader.old < MAX_FAILURES }
     requires writer { W.failures writer.old < MAX_FAILURES }
     // One reply for each line was written, and nothing else. The image is of what the requests led to that were made.
-    ensures image { IfOk result (λ bytes. LeavesImage broker
-        (ServesInput true (R.left reader.old) (Appends (W.written writer.old) (W.written writer.new))) bytes.items) }
+    ensures image { IfOk result (λ bytes.
+        LeavesImage broker (PipesAll R.Reader W.Writer reader.old writer.old writer.new) bytes.items) }
     ensures flushed { OnOk result (IsFlushed (W.written writer.new) (W.flushed writer.new)) }
     ensures busy { IsErrOf result Refusal.Busy ↔ IsInUse broker }
     ensures unread { IsErrOf result Refusal.Busy → (reader.new ≡ reader.old) × (writer.new ≡ writer.old) }
     // Nothing was read or written, or the same was served, without the image.
     ensures no_memory { IsErrOf result Refusal.NoMemory →
-        ((reader.new ≡ reader.old) × (writer.new ≡ writer.old)) ⊎ IsServed broker
-        (ServesInput true (R.left reader.old) (Appends (W.written writer.old) (W.written writer.new))) }
+        ((reader.new ≡ reader.old) × (writer.new ≡ writer.old))
+        ⊎ IsServed broker (PipesAll R.Reader W.Writer reader.old writer.old writer.new) }
     // The same for the whole lines of what was read.
-    ensures read_failed { IsErrOf result Refusal.ReadFailed → IsServed broker
-        (ServesInputRead (R.left reader.old) (R.left reader.new)
-        (Appends (W.written writer.old) (W.written writer.new))) }
+    ensures read_failed { IsErrOf result Refusal.ReadFailed
+        → IsServed broker (PipesRead R.Reader W.Writer reader.old reader.new writer.old writer.new) }
     // A beginning of it was written.
-    ensures write_failed { IsErrOf result Refusal.WriteFailed → IsServed broker
-        (ServesInput false (R.left reader.old) (AppendsBeginning (W.written writer.old) (W.written writer.new))) }
+    ensures write_failed { IsErrOf result Refusal.WriteFailed
+        → IsServed broker (PipesSome R.Reader W.Writer reader.old writer.old writer.new) }
     ensures read_fault { IsErrOf result Refusal.ReadFailed ↔ (R.failures reader.old < R.failures reader.new) }
     ensures write_fault { IsErrOf result Refusal.WriteFailed ↔ (W.failures writer.old < W.failures writer.new) }
     ensures errors { IfErr result MayEndPipe }

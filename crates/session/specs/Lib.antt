@@ -4,3 +4,4 @@ pub mod Requests
 pub mod Keeping
 pub mod Promises
 pub mod Telling
+pub mod Answering

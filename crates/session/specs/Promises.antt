@@ -3,6 +3,7 @@ use Rattle.std.specs.Prelude.{◌≡◌, ◌<◌, ◌≤◌, ℕ, Option, Some, 
 use Rattle.words.specs.declared.call.Client.{Client}
 use Rattle.words.specs.declared.call.Kind.TheVariants.{Log as log_kind}
 use Rattle.words.specs.declared.call.Reply.{Reply}
+use Rattle.words.specs.declared.limits.TheConstants.{MAX_CLIENTS}
 use Rattle.words.specs.declared.told.Verdict.{Verdict}
 use Rattle.interleave.specs.Numbers.{AreNumbersOnce}
 use Rattle.interleave.specs.State.{State}
@@ -19,6 +20,12 @@ IsReplyIn None client number reply = ⊥
 
 abbrev pub IsReplyAt : Sessioned → ℕ → Client → ℕ → Reply → Type 0
 IsReplyAt s slot client number reply = IsReplyIn (world_at s.broker slot) client number reply
+
+-- a client's number has one reply
+abbrev pub HaveOneReply : State → Type 0
+HaveOneReply w =
+    (client : Client) (number : ℕ) (reply other : Reply) → client.0 < MAX_CLIENTS → IsReplyOf w client number reply
+    → IsReplyOf w client number other → reply ≡ other
 
 -- what is kept of a client that has no call under way: none of its calls with a later number is in the order, nor,
 -- where the verdict is NotTaken, one with that number; with nothing kept none is. Nor does the base tell that such a

@@ -5,12 +5,12 @@ use Rattle.words.specs.declared.call.Client.{Client}
 use Rattle.words.specs.declared.call.Kind.{Kind}
 use Rattle.words.specs.declared.call.Kind.TheVariants.{Durable as durable_kind, Log as log_kind}
 use Rattle.words.specs.declared.call.Reply.{Reply}
-use Rattle.words.specs.declared.limits.TheConstants.{MAX_STEPS_ALONE}
+use Rattle.words.specs.declared.limits.TheConstants.{MAX_CALL_NUMBER, MAX_STEPS_ALONE}
 use Rattle.words.specs.declared.refusal.Refusal.{Refusal}
 use Rattle.words.specs.declared.refusal.Refusal.TheVariants.{Busy, NoMemory, WrongKind}
 use Rattle.words.specs.declared.told.Verdict.{Verdict}
 use Rattle.interleave.specs.Rules.{Rule, stepping}
-use Rattle.interleave.specs.State.{State, IsAnsweredAlone, after_alone, after_start, start_result}
+use Rattle.interleave.specs.State.{State, IsAnsweredAlone, after_alone, after_start, number_to_start, start_result}
 use Rattle.interleave.specs.Verdicts.{number_under_way, taken_as}
 use Rattle.named.specs.Acting.{IsActAt, IsSameBeside}
 use Rattle.named.specs.Brokers.{Brokered, admission, answer_at, answer_if, room_at, world_after, world_at}
@@ -78,6 +78,19 @@ IsBegunBy old new slot client number call result (Err refusal) = (result ≡ Err
 IsBegunBy old new slot client number call result (Ok (Some reply)) = (result ≡ Ok (Some reply)) × (new ≡ old)
 IsBegunBy old new slot client number call result (Ok None) =
     IsStarted old.broker new.broker slot client number call result × (new.kept ≡ old.kept)
+
+-- what a request makes, with its number or without one
+abbrev pub IsRequestBegun
+    : Sessioned → Sessioned → ℕ → Client → Option ℕ → Call → Result (Option Reply) Refusal → Type 0
+IsRequestBegun old new slot client number call result =
+    IsBegunBy old new slot client (number_or_zero number) call result (answer_to old slot client number)
+
+-- a number that is to run, by what is kept, is one that the queue takes for a call, unless it is above the greatest
+abbrev pub AreAdmittedTaken : Sessioned → Type 0
+AreAdmittedTaken s =
+    (slot : ℕ) (w : State) (client : Client) (number : ℕ) → world_at s.broker slot ≡ Some w
+    → request_answer s slot client number ≡ Ok None → number ≤ MAX_CALL_NUMBER
+    → number_to_start w client number ≡ Ok number
 
 -- the slot is open, and no act of the client's is refused before its queue is looked at
 pub record IsOpenTo (b : Brokered) (slot : ℕ) (client : Client) : Type 0 where

@@ -1,6 +1,6 @@
 //! What holds over any list of a session's acts.
 
-ghost use Rattle.std.specs.Prelude.{◌≡◌, ◌<◌, ◌≤◌, ℕ, Bool, false, Ok, Option, Result, Some, None};
+ghost use Rattle.std.specs.Prelude.{◌≡◌, ℕ, Bool, false, Ok, Option, Result, Some, None};
 ghost use Rattle.words.specs.declared.refusal.Refusal.{Refusal};
 ghost use Rattle.persist.specs.Memory.{Words};
 ghost use Rattle.arena.specs.Shape.{Counts};
@@ -8,24 +8,21 @@ ghost use Rattle.named.specs.Booting.{IsBooted};
 ghost use Rattle.arena.specs.declared.broker.SlotId.{SlotId};
 ghost use Rattle.directory.specs.declared.creation.Creation.{Creation};
 ghost use Rattle.named.specs.Brokers.{Brokered, IsNew, IsOpened, IsWell, quiet, world_at};
-ghost use Rattle.named.specs.Evicting.{world_evicted};
+ghost use Rattle.named.specs.Evicting.{AreWorldsEvicted};
 ghost use Rattle.named.specs.GoingOn.{AreOthersQuiet};
-ghost use Rattle.named.specs.Slots.{acted};
 ghost use Rattle.named.specs.Rotating.{rotate_result, IsRotated};
 ghost use Rattle.named.specs.Stopping.{IsRecoveryStep, IsStopped};
-ghost use Rattle.words.specs.declared.call.Client.{Client};
 ghost use Rattle.words.specs.declared.call.Reply.{Reply};
-ghost use Rattle.words.specs.declared.limits.TheConstants.{MAX_CALL_NUMBER, MAX_CLIENTS};
 ghost use Rattle.words.specs.declared.told.Verdict.{Verdict};
 ghost use Rattle.interleave.specs.Holds.{Holds};
-ghost use Rattle.interleave.specs.State.{State, number_to_start};
-ghost use Rattle.interleave.specs.Verdicts.{IsReplyOf, kept_told};
+ghost use Rattle.interleave.specs.State.{State};
 ghost use Rattle.words.specs.declared.call.Kind.{Kind};
-ghost use Rattle.session.specs.Keeping.{IsSettled, SessionGoesOn, verdict_heard};
+ghost use Rattle.session.specs.Keeping.{IsSettled, SessionGoesOn};
 ghost use Rattle.session.specs.Numbers.{by_number};
-ghost use Rattle.session.specs.Promises.{KeepsNumbers};
-ghost use Rattle.session.specs.Requests.{request_answer};
-ghost use Rattle.session.specs.Sessions.{HasDurableQueue, IsRight, IsUncalled, Sessioned, kept_at};
+ghost use Rattle.session.specs.Promises.{HaveOneReply, KeepsNumbers};
+ghost use Rattle.session.specs.Requests.{AreAdmittedTaken};
+ghost use Rattle.session.specs.Sessions.{HasDurableQueue, IsRight, IsUncalled, Sessioned};
+ghost use Rattle.session.specs.Telling.{IsSettledTold};
 
 /// Each act's `goes_on` says that a settled number stays settled, and these chain: so it is over any list of acts, with
 /// crashes, recoveries, evictions and rotations. A settled number never runs again, and each answer to it, however
@@ -41,25 +38,19 @@ pub fn answers_last()
 
 /// A client's number has one reply in a log queue.
 pub fn numbers_have_one_reply()
-    ensures { (w : State) (client : Client) (number : ℕ) (reply other : Reply) → Holds w → w.shape.kind ≡ Kind.Log
-        → client.0 < MAX_CLIENTS → IsReplyOf w client number reply → IsReplyOf w client number other → reply ≡ other }
+    ensures { (w : State) → Holds w → w.shape.kind ≡ Kind.Log → HaveOneReply w }
 {}
 
 /// What is settled the kept words tell: by the verdict that they tell a client of a log queue each of its settled
 /// numbers is settled. A broker that begins on these words tells the client just that.
 pub fn settled_is_told()
-    ensures { (s : Sessioned) (slot : ℕ) (w : State) (client : Client) (number : ℕ) (reply : Reply) → IsRight s
-        → world_at s.broker slot ≡ Some w → w.shape.kind ≡ Kind.Log → client.0 < w.shape.clients
-        → IsSettled (kept_at s slot client) number reply
-        → IsSettled (verdict_heard (Ok (kept_told w client))) number reply }
+    ensures { (s : Sessioned) → IsRight s → IsSettledTold s }
 {}
 
 /// A number that the table of numbers lets run is not stale, unless it is above the greatest number: the queue takes it
 /// for a call, and refuses that for want of records or memory alone.
 pub fn admitted_numbers_run()
-    ensures { (s : Sessioned) (slot : ℕ) (w : State) (client : Client) (number : ℕ) → KeepsNumbers s
-        → world_at s.broker slot ≡ Some w → request_answer s slot client number ≡ Ok None → number ≤ MAX_CALL_NUMBER
-        → number_to_start w client number ≡ Ok number }
+    ensures { (s : Sessioned) → KeepsNumbers s → AreAdmittedTaken s }
 {}
 
 /// A broker that begins, that has recovered, or that has ended its histories may be given to a session: nobody has
@@ -76,8 +67,7 @@ pub fn uncalled_brokers()
     ensures created { (old new : Brokered) (creation : Creation) (slot : SlotId) → IsWell new → IsUncalled old
         → IsOpened old new creation slot → AreOthersQuiet old new slot.0 → IsUncalled new }
     ensures evicted { (old new : Brokered) (word : ℕ) → IsWell old → IsUncalled old
-        → ((slot : ℕ) → world_at new slot ≡ acted (world_evicted old.counts slot word) (world_at old slot))
-        → IsUncalled new }
+        → AreWorldsEvicted old new word → IsUncalled new }
     ensures durable { (old new : Brokered) (slot : ℕ) → IsWell new → IsUncalled old → HasDurableQueue new slot
         → AreOthersQuiet old new slot → IsUncalled new }
     ensures alike { (old new : Brokered) → IsUncalled old

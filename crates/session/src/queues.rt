@@ -1,10 +1,9 @@
 //! The queues of a session's broker.
 
 ghost use Rattle.std.specs.Prelude.{◌≡◌, ◌≢◌, ◌<◌, ◌≤◌, ℕ, true, Err, None, IfErr, IfOk, IfSome, IsSome, OnErr, OnOk};
-ghost use Rattle.directory.specs.Creation.{successor};
 ghost use Rattle.persist.specs.Noted.{answer_in, change_in, IsNoted};
 ghost use Rattle.interleave.specs.Calls.{is_no_memory};
-ghost use Rattle.named.specs.Brokers.{is_down, quiet, room_at, world_at, IsBegun, IsNotCreated, IsStepCreated, MayCreate};
+ghost use Rattle.named.specs.Brokers.{is_down, room_at, world_at, AreUnopenedQuiet, IsBegun, IsCreationStep, IsNotCreated, MayCreate};
 ghost use Rattle.named.specs.GoingOn.{BrokerGoesOn};
 ghost use Rattle.named.specs.Renewing.{HasRoomInEach, IsRenewedAt, IsWhyNotRenewedAt, MayRenew};
 ghost use Rattle.named.specs.Rotating.{rotate_result, IsRotated};
@@ -41,10 +40,8 @@ impl Session {
         ensures down { is_down self.old.broker ≡ true → result ≡ Err Refusal.NotReady }
         ensures idle { self.old.broker.recovery ≡ None → self.old.broker.creation ≡ None → result ≡ Err Refusal.Idle }
         ensures same { OnErr result (self.new ≡ self.old) }
-        ensures step { self.old.broker.recovery ≡ None → IfSome self.old.broker.creation
-            (λ creation. IsStepCreated self.old.broker self.new.broker creation result (successor creation)) }
-        ensures others { (other : ℕ) → IfOk result (λ opened. IfSome opened (λ slot. other ≢ slot.0))
-            → quiet (world_at self.new.broker other) ≡ quiet (world_at self.old.broker other) }
+        ensures step { IsCreationStep self.old.broker self.new.broker result }
+        ensures others { AreUnopenedQuiet self.old.broker self.new.broker result }
         ensures kept { self.new.kept ≡ self.old.kept }
         ensures goes_on { SessionGoesOn self.old self.new }
         ensures queues { BrokerGoesOn self.old.broker self.new.broker }
@@ -59,11 +56,8 @@ impl Session {
         ensures idle { self.old.broker.recovery ≡ None → self.old.broker.creation ≡ None
             → answer_in result ≡ Err Refusal.Idle }
         ensures same { OnErr (answer_in result) (self.new ≡ self.old) }
-        ensures step { self.old.broker.recovery ≡ None → IfSome self.old.broker.creation
-            (λ creation. IsStepCreated self.old.broker self.new.broker creation (answer_in result)
-            (successor creation)) }
-        ensures others { (other : ℕ) → IfOk (answer_in result) (λ opened. IfSome opened (λ slot. other ≢ slot.0))
-            → quiet (world_at self.new.broker other) ≡ quiet (world_at self.old.broker other) }
+        ensures step { IsCreationStep self.old.broker self.new.broker (answer_in result) }
+        ensures others { AreUnopenedQuiet self.old.broker self.new.broker (answer_in result) }
         ensures kept { self.new.kept ≡ self.old.kept }
         ensures noted { IsNoted (change_in result) self.old.broker.words.kept self.new.broker.words.kept }
         ensures goes_on { SessionGoesOn self.old self.new }

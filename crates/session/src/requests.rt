@@ -6,12 +6,12 @@ ghost use Rattle.persist.specs.Noted.{answer_in, change_in, IsNoted};
 ghost use Rattle.interleave.specs.Rules.{starting};
 ghost use Rattle.interleave.specs.Verdicts.{taken_as};
 ghost use Rattle.named.specs.Acting.{IsActAt, IsSameBeside};
-ghost use Rattle.named.specs.Brokers.{answer_at, world_at};
+ghost use Rattle.named.specs.Brokers.{answer_at};
 ghost use Rattle.named.specs.GoingOn.{BrokerGoesOn};
 ghost use Rattle.session.specs.Keeping.{IsKeptNow, SessionGoesOn};
 ghost use Rattle.session.specs.Promises.{IsReplyAt, IsReplyIfNumbered, KeepsNumbers};
-ghost use Rattle.session.specs.Requests.{answer_to, call_number, last_after, number_or_zero, plain_answer, request_admission, request_answer, IsAdvanced, IsBegunBy, IsServedBy};
-ghost use Rattle.session.specs.Sessions.{kept_at};
+ghost use Rattle.session.specs.Answering.{IsAnswerKept, IsReplyOfCall};
+ghost use Rattle.session.specs.Requests.{answer_to, call_number, number_or_zero, plain_answer, request_admission, request_answer, IsAdvanced, IsRequestBegun, IsServedBy};
 
 use crate::numbers::answer;
 use crate::running::run;
@@ -117,8 +117,7 @@ impl Session {
         number: Option<u64>,
         call: Call,
     ) -> Result<Option<Reply>, Refusal>
-        ensures begun { IsBegunBy self.old self.new queue.0 client (number_or_zero number) call result
-            (answer_to self.old queue.0 client number) }
+        ensures begun { IsRequestBegun self.old self.new queue.0 client number call result }
         ensures stale { result ≡ Err Refusal.StaleNumber → MAX_CALL_NUMBER < number_or_zero number }
         ensures reply { IfOk result (λ answer. IfSome answer (IsReplyIfNumbered self.new queue.0 client number)) }
         ensures same { self.new.kept ≡ self.old.kept }
@@ -169,11 +168,8 @@ impl Session {
     /// One step of the client's call: its reply, if it answered. It is refused as [`named::Broker::step`] is.
     pub fn advance(&mut self, client: Client, queue: SlotId) -> Result<Option<Reply>, Refusal>
         ensures advanced { IsAdvanced self.old.broker self.new.broker queue.0 client result }
-        ensures reply { IfOk result (λ answer. IfSome answer (IsReplyIfNumbered self.new queue.0 client
-            (call_number (world_at self.old.broker queue.0) client))) }
-        ensures kept { IsKeptNow self.old.kept self.new.kept queue.0 client.0
-            (last_after (call_number (world_at self.old.broker queue.0) client) result
-            (kept_at self.old queue.0 client)) }
+        ensures reply { IsReplyOfCall self.old self.new queue.0 client result }
+        ensures kept { IsAnswerKept self.old self.new queue.0 client result }
         ensures goes_on { SessionGoesOn self.old self.new }
         ensures queues { BrokerGoesOn self.old.broker self.new.broker }
         ensures promises { KeepsNumbers self.new }
@@ -188,11 +184,8 @@ impl Session {
         queue: SlotId,
     ) -> Result<Noted<Option<Reply>>, Refusal>
         ensures advanced { IsAdvanced self.old.broker self.new.broker queue.0 client (answer_in result) }
-        ensures reply { IfOk (answer_in result) (λ answer. IfSome answer (IsReplyIfNumbered self.new queue.0 client
-            (call_number (world_at self.old.broker queue.0) client))) }
-        ensures kept { IsKeptNow self.old.kept self.new.kept queue.0 client.0
-            (last_after (call_number (world_at self.old.broker queue.0) client) (answer_in result)
-            (kept_at self.old queue.0 client)) }
+        ensures reply { IsReplyOfCall self.old self.new queue.0 client (answer_in result) }
+        ensures kept { IsAnswerKept self.old self.new queue.0 client (answer_in result) }
         ensures noted { IsNoted (change_in result) self.old.broker.words.kept self.new.broker.words.kept }
         ensures goes_on { SessionGoesOn self.old self.new }
         ensures queues { BrokerGoesOn self.old.broker self.new.broker }

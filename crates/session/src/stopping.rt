@@ -6,11 +6,10 @@ ghost use Rattle.persist.specs.Noted.{answer_in, change_in, IsNoted};
 ghost use Rattle.interleave.specs.Calls.{is_no_memory};
 ghost use Rattle.interleave.specs.State.{crash_result};
 ghost use Rattle.named.specs.Blocks.{IsSameWords};
-ghost use Rattle.named.specs.Brokers.{room_at, world_at};
-ghost use Rattle.named.specs.Evicting.{evict_result, world_evicted};
+ghost use Rattle.named.specs.Brokers.{room_at};
+ghost use Rattle.named.specs.Evicting.{evict_result, AreWorldsEvicted};
 ghost use Rattle.named.specs.GoingOn.{BrokerGoesOn, IsDowntime};
 ghost use Rattle.named.specs.Lasting.{most_kept, steps_left};
-ghost use Rattle.named.specs.Slots.{acted};
 ghost use Rattle.named.specs.Stopping.{HasFullQueue, IsRecoveryStep, IsSameButRoom, IsStopped};
 ghost use Rattle.named.specs.Telling.{TellAtReady};
 ghost use Rattle.session.specs.Keeping.{AreKeptAfter, SessionGoesOn};
@@ -27,8 +26,7 @@ impl Session {
     pub fn evict(&mut self, word: usize) -> Result<Option<Change>, Refusal>
         ensures result { result ≡ evict_result self.old.broker word }
         ensures words { IsSameWords (words_after_eviction word self.old.broker.words) self.new.broker.words }
-        ensures worlds { (slot : ℕ) → world_at self.new.broker slot
-            ≡ acted (world_evicted self.old.broker.counts slot word) (world_at self.old.broker slot) }
+        ensures worlds { AreWorldsEvicted self.old.broker self.new.broker word }
         ensures same { self.new.broker
             ≡ record self.old.broker { words = self.new.broker.words; slots = self.new.broker.slots } }
         ensures room { (slot : ℕ) → room_at self.new.broker slot ≡ room_at self.old.broker slot }

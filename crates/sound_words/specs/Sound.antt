@@ -1,5 +1,5 @@
 -- Which kept words are sound: what the words of a queue keep to at every moment, so that recovery can begin with them.
-use Rattle.std.specs.Prelude.{◌≡◌, ◌≢◌, ℕ, ◌+◌, ◌≤◌, ◌<◌, ◌⊎◌, List, length, slice_index}
+use Rattle.std.specs.Prelude.{◌≡◌, ◌≢◌, ℕ, ◌+◌, ◌≤◌, ◌<◌, ◌⊎◌, List, Option, MatchOption, length, slice_index}
 use Rattle.words.specs.Refusal.{number_of}
 use Rattle.words.specs.declared.call.Kind.{Kind}
 use Rattle.words.specs.declared.call.Kind.TheVariants.{Durable, Log}
@@ -241,6 +241,14 @@ ObeysIn form s ws Directory = Unit {0}
 pub record IsFirstBrokenIn (form : Form) (s : Shape) (ws : List ℕ) (rule : Rule) : Type 0 where
   pub broken : ObeysIn form s ws rule → ⊥
   pub before : (other : Rule) → number_of other < number_of rule → ObeysIn form s ws other
+
+-- none is broken, or this one is the first
+abbrev pub IsVerdictOn : Form → Shape → List ℕ → Option Rule → Type 0
+IsVerdictOn form s ws verdict = MatchOption verdict (AreSoundWordsIn form s ws) (IsFirstBrokenIn form s ws)
+
+-- so it is of each record
+abbrev pub EachRecord : Shape → (ℕ → Type 0) → Type 0
+EachRecord s claim = (n : ℕ) → IsRecord s n → claim n
 
 -- a refusal by the first rule that is broken
 abbrev pub IsDamagedIn : Form → Shape → List ℕ → Refusal → Type 0

@@ -4,7 +4,7 @@ ghost use Rattle.std.specs.Prelude.{◌≡◌, ◌≢◌, ℕ, ◌≤◌, ◌<�
 ghost use Rattle.arena.specs.Place.{IsPlace, IsRecord};
 ghost use Rattle.arena.specs.Shape.{greatest};
 ghost use Rattle.sound_words.specs.Kept.{kept_of};
-ghost use Rattle.sound_words.specs.Sound.{IsLoose, IsLooseIfOff, IsSentinelIn, ChainIsSoundIn};
+ghost use Rattle.sound_words.specs.Sound.{EachRecord, IsLoose, IsLooseIfOff, IsSentinelIn, ChainIsSoundIn};
 ghost use Rattle.sound_words.specs.Order.{IsRun, IsOrder};
 
 use crate::kept::KeptQueue;
@@ -81,7 +81,7 @@ impl<W: KeptWords> KeptQueue<'_, W> {
     fn are_loose(&self, place: &[u32]) -> bool
         requires order { IsOrder self.now.shape (kept_of self.now) (λ n. slice_index place.now n) }
         ensures { IsTrue result
-            ↔ ((n : ℕ) → IsRecord self.now.shape n → IsLooseIfOff self.now.shape (kept_of self.now) n) }
+            ↔ EachRecord self.now.shape (IsLooseIfOff self.now.shape (kept_of self.now)) }
     {
         let greatest = self.clients() * self.records();
         for node in 1..greatest + 1 {

@@ -5,7 +5,7 @@ ghost use Rattle.arena.specs.Place.{IsPlace, IsNode, IsRecord};
 ghost use Rattle.arena.specs.Shape.{greatest};
 ghost use Rattle.arena.specs.Words.{HoldsIn};
 ghost use Rattle.sound_words.specs.Kept.{kept_of};
-ghost use Rattle.sound_words.specs.Sound.{ChainIsSoundIn, ClaimsAreSoundIn, EndsAreSound, HeadIsSound, TailIsSound};
+ghost use Rattle.sound_words.specs.Sound.{ChainIsSoundIn, EachRecord, ClaimsAreSoundIn, EndsAreSound, HeadIsSound, TailIsSound};
 ghost use Rattle.sound_words.specs.Order.{IsOrder, AreClaims, IsClaimTable, IsInTurn};
 
 use crate::chain::has_place;
@@ -74,7 +74,7 @@ impl<W: KeptWords> KeptQueue<'_, W> {
     /// Whether so it is of each node but node 0.
     fn are_in_turn(&self) -> bool
         requires chain { ChainIsSoundIn self.now.form self.now.shape (kept_of self.now) }
-        ensures { IsTrue result ↔ ((n : ℕ) → IsRecord self.now.shape n → IsInTurn self.now.shape (kept_of self.now) n) }
+        ensures { IsTrue result ↔ EachRecord self.now.shape (IsInTurn self.now.shape (kept_of self.now)) }
     {
         let greatest = self.clients() * self.records();
         for node in 1..greatest + 1 {

@@ -6,7 +6,7 @@ ghost use Rattle.arena.specs.Shape.{greatest};
 ghost use Rattle.arena.specs.Words.{entry_kinds, entry_nodes};
 ghost use Rattle.words.specs.declared.call.Kind.TheVariants.{Log};
 ghost use Rattle.sound_words.specs.Kept.{kept_of};
-ghost use Rattle.sound_words.specs.Sound.{ChainIsSoundIn, ClaimsAreSoundIn, EndsAreSound, EntriesAreSound, LogIsSound, IsAnnounced, IsOwn, IsOfSomeCall, StatusIsSound, RemovedIsSound};
+ghost use Rattle.sound_words.specs.Sound.{ChainIsSoundIn, EachRecord, ClaimsAreSoundIn, EndsAreSound, EntriesAreSound, LogIsSound, IsAnnounced, IsOwn, IsOfSomeCall, StatusIsSound, RemovedIsSound};
 ghost use Rattle.sound_words.specs.Order.{IsPlaceTable, IsTokenTable, IsInsertedIfOn, EntryTells, ClaimIsToldInEntry};
 
 use crate::chain::has_place;
@@ -37,7 +37,7 @@ impl<W: KeptWords> KeptQueue<'_, W> {
         requires log { self.now.shape.kind ≡ Log }
         requires places { IsPlaceTable self.now.shape (kept_of self.now) place.now }
         ensures { IsTrue result
-            ↔ ((n : ℕ) → IsRecord self.now.shape n → IsInsertedIfOn self.now.shape (kept_of self.now) n) }
+            ↔ EachRecord self.now.shape (IsInsertedIfOn self.now.shape (kept_of self.now)) }
     {
         let greatest = self.clients() * self.records();
         for node in 1..greatest + 1 {
@@ -172,7 +172,7 @@ impl<W: KeptWords> KeptQueue<'_, W> {
         requires places { IsPlaceTable self.now.shape (kept_of self.now) place.now }
         requires tokens { IsTokenTable self.now.shape (kept_of self.now) claimed.now }
         ensures { IsTrue result
-            ↔ ((e : ℕ) → IsRecord self.now.shape e → EntryTells self.now.shape (kept_of self.now) e) }
+            ↔ EachRecord self.now.shape (EntryTells self.now.shape (kept_of self.now)) }
     {
         let greatest = self.clients() * self.records();
         for entry in 1..greatest + 1 {
@@ -215,7 +215,7 @@ impl<W: KeptWords> KeptQueue<'_, W> {
         requires places { IsPlaceTable self.now.shape (kept_of self.now) place.now }
         requires ends { EndsAreSound self.now.shape (kept_of self.now) }
         ensures { IsTrue result
-            ↔ ((n : ℕ) → IsRecord self.now.shape n → ClaimIsToldInEntry self.now.shape (kept_of self.now) n) }
+            ↔ EachRecord self.now.shape (ClaimIsToldInEntry self.now.shape (kept_of self.now)) }
     {
         let greatest = self.clients() * self.records();
         for node in 1..greatest + 1 {

@@ -8,7 +8,7 @@ ghost use Rattle.arena.specs.Chain.{LeadsTo};
 ghost use Rattle.arena.specs.declared.place.Place.TheVariants.{Head};
 ghost use Rattle.words.specs.declared.call.Kind.TheVariants.{Durable};
 ghost use Rattle.sound_words.specs.Kept.{kept_of};
-ghost use Rattle.sound_words.specs.Sound.{ChainIsSoundIn, ClaimsAreSoundIn, EndsAreSound, RowsAreSoundIn, RowIsSound, IsOwn, named_in};
+ghost use Rattle.sound_words.specs.Sound.{ChainIsSoundIn, EachRecord, ClaimsAreSoundIn, EndsAreSound, RowsAreSoundIn, RowIsSound, IsOwn, named_in};
 ghost use Rattle.sound_words.specs.Order.{IsPlaceTable, IsTokenTable, CellTellsIn, ClaimIsToldInCell};
 
 use crate::kept::KeptQueue;
@@ -100,7 +100,7 @@ impl<W: KeptWords> KeptQueue<'_, W> {
         requires chain { ChainIsSoundIn self.now.form self.now.shape (kept_of self.now) }
         requires tokens { IsTokenTable self.now.shape (kept_of self.now) claimed.now }
         ensures { IsTrue result
-            ↔ ((c : ℕ) → IsRecord self.now.shape c → CellTellsIn self.now.form self.now.shape (kept_of self.now) c) }
+            ↔ EachRecord self.now.shape (CellTellsIn self.now.form self.now.shape (kept_of self.now)) }
     {
         let greatest = self.clients() * self.records();
         for cell in 1..greatest + 1 {
@@ -141,7 +141,7 @@ impl<W: KeptWords> KeptQueue<'_, W> {
         requires places { IsPlaceTable self.now.shape (kept_of self.now) place.now }
         requires ends { EndsAreSound self.now.shape (kept_of self.now) }
         ensures { IsTrue result
-            ↔ ((n : ℕ) → IsRecord self.now.shape n → ClaimIsToldInCell self.now.shape (kept_of self.now) n) }
+            ↔ EachRecord self.now.shape (ClaimIsToldInCell self.now.shape (kept_of self.now)) }
     {
         let greatest = self.clients() * self.records();
         for node in 1..greatest + 1 {

@@ -1,12 +1,12 @@
 //! Whether kept words are sound.
 
-ghost use Rattle.std.specs.Prelude.{◌≡◌, ◌≢◌, ℕ, ◌≤◌, ◌<◌, ◌↔◌, length, slice_index, IsTrue, IsOk, IfErr, IfNone, IfOk, MatchOption};
+ghost use Rattle.std.specs.Prelude.{◌≡◌, ◌≢◌, ℕ, ◌≤◌, ◌<◌, ◌↔◌, length, slice_index, IsTrue, IsOk, IfErr, IfNone, IfOk};
 ghost use Rattle.arena.specs.Broker.{block_size_in};
 ghost use Rattle.arena.specs.Layout.{size_in};
 ghost use Rattle.arena.specs.Shape.{greatest};
 ghost use Rattle.sound_words.specs.Kept.{kept_of};
 ghost use Rattle.sound_words.specs.Order.{IsClaimTable, IsOrder, IsSurveyOf};
-ghost use Rattle.sound_words.specs.Sound.{SizeIsSoundIn, RecordsAreSoundIn, AreSoundWords, AreSoundWordsIn, IsFirstBrokenIn, IsDamaged, IsDamagedIn};
+ghost use Rattle.sound_words.specs.Sound.{SizeIsSoundIn, RecordsAreSoundIn, AreSoundWords, AreSoundWordsIn, IsVerdictOn, IsDamaged, IsDamagedIn};
 
 use crate::kept::KeptQueue;
 use arena::{Form, Layout, block_size, block_size_of_values, size_of_values};
@@ -70,8 +70,7 @@ impl<W: KeptWords> KeptQueue<'_, W> {
         requires no_place { (n : ℕ) → slice_index place.old n ≡ 0 }
         requires tokens { greatest self.now.shape < length claimed.old }
         requires no_token { (n : ℕ) → slice_index claimed.old n ≡ 0 }
-        ensures broken { MatchOption result (AreSoundWordsIn self.now.form self.now.shape self.now.words)
-            (λ rule. IsFirstBrokenIn self.now.form self.now.shape self.now.words rule) }
+        ensures broken { IsVerdictOn self.now.form self.now.shape self.now.words result }
         ensures places { greatest self.now.shape < length place.new }
         ensures tokens { greatest self.now.shape < length claimed.new }
         ensures order { IfNone result (IsOrder self.now.shape (kept_of self.now) (λ n. slice_index place.new n)) }
@@ -142,8 +141,7 @@ fn first_broken<W: KeptWords>(
 ) -> Option<Rule>
     requires no_place { (n : ℕ) → slice_index survey.old.place n ≡ 0 }
     requires no_token { (n : ℕ) → slice_index survey.old.claimed n ≡ 0 }
-    ensures broken { MatchOption result (AreSoundWordsIn form layout.now (W.kept_words words.now))
-        (λ rule. IsFirstBrokenIn form layout.now (W.kept_words words.now) rule) }
+    ensures broken { IsVerdictOn form layout.now (W.kept_words words.now) result }
     ensures survey { IfNone result (IsSurveyOf form layout.now (W.kept_words words.now)
         survey.new.place survey.new.claimed) }
 {

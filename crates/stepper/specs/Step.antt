@@ -59,6 +59,10 @@ IsReadInRange s (Cas place old new) found = Fits s place found
 IsReadInRange s (Flush place) found = Unit {0}
 IsReadInRange s (Fence place) found = Unit {0}
 
+-- so it is of what the access finds
+abbrev pub FindsInRange : Shape → Access Place → Words → Type 0
+FindsInRange s access ws = IsReadInRange s access (value_found s access ws)
+
 -- the place whose word the access keeps, if it is a fence
 abbrev pub kept_by : Access Place → Option Place
 kept_by (Load place) = None

@@ -60,7 +60,7 @@ pub trait Points {
 pub trait Resume {
     ghost use Rattle.std.specs.Prelude.{◌≡◌, ◌≤◌, length};
     ghost use Rattle.arena.specs.Layout.{size_of};
-    ghost use Rattle.stepper.specs.Step.{after_one, change_by, lent_after_one, value_found, IsAskedFor, IsReadInRange};
+    ghost use Rattle.stepper.specs.Step.{after_one, change_by, lent_after_one, value_found, FindsInRange, IsAskedFor};
 
     /// The points of its machine.
     type Point: Points;
@@ -76,8 +76,8 @@ pub trait Resume {
     ) -> Stepped<Self::Point, <Self::Point as Points>::Answer>
         requires room { size_of layout.now ≤ length (M.words memory.old).cached }
         requires point { Self.Point.in_range layout.now (point self) }
-        requires read { let s = layout.now in let access = Self.Point.access s.kind (point self) in
-            IsReadInRange s access (value_found s access (M.words memory.old)) }
+        requires read { let s = layout.now in
+            FindsInRange s (Self.Point.access s.kind (point self)) (M.words memory.old) }
         requires asked { let s = layout.now in
             IsAskedFor s (Self.Point.access s.kind (point self)) (M.lent memory.old).request }
         ensures one_access { let s = layout.now in

@@ -1,6 +1,7 @@
 -- What a list and a history say of each other: how many calls each has, and what became of a call.
-use Rattle.std.specs.Prelude.{◌==◌, ◌&&◌, ℕ, Bool, false, is_some, List, count_by, drop}
+use Rattle.std.specs.Prelude.{◌≡◌, ◌==◌, ◌&&◌, ℕ, Bool, false, is_some, List, Some, count_by, drop}
 use Rattle.words.specs.declared.call.Client.{Client}
+use Rattle.words.specs.declared.call.Kind.TheVariants.{Log as log_kind}
 use Rattle.words.specs.declared.call.Reply.{Reply}
 use Rattle.events.specs.Orders.{IsTakenAs}
 use Rattle.events.specs.Telling.{IsToldTaken}
@@ -8,7 +9,12 @@ use Rattle.events.specs.declared.event.Event.{Event}
 use Rattle.events.specs.declared.event.Event.TheVariants.{Call as call_event, Return as return_event}
 use Rattle.events.specs.declared.event.Event.TheVariants.{Crash as crash_event, Ready as ready_event}
 use Rattle.interleave.specs.State.{State, order_in}
-use Rattle.workers.specs.Lists.{HasReturned, IsCutOff}
+use Rattle.named.specs.Brokers.{world_at}
+use Rattle.session.specs.Requests.{number_or_zero}
+use Rattle.session.specs.Sessions.{Sessioned}
+use Rattle.workers.specs.Lists.{HasEntryAt, HasReturned, IsCutOff, events_at}
+use Rattle.workers.specs.declared.entry.End.{End}
+use Rattle.workers.specs.declared.entry.End.TheVariants.{Answered, Interrupted}
 use Rattle.workers.specs.declared.entry.Entry.{Entry}
 
 -- whether the entry's call ran in the queue of this slot
@@ -30,6 +36,11 @@ begins_call client (ready_event told) = false
 abbrev pub call_count : ℕ → Client → List Event → ℕ
 call_count since client events = count_by (begins_call client) (drop since events)
 
+-- so many as the list has that ran there, in each queue, from these places on
+abbrev pub AreCallsCounted : (ℕ → ℕ) → Sessioned → Client → List Entry → Type 0
+AreCallsCounted since s client list =
+    (slot : ℕ) → ran_count slot list ≡ call_count (since slot) client (events_at s.broker slot)
+
 -- the client's call at the place returned this, and stands in the order with it
 pub record IsAnsweredAs (w : State) (client : Client) (place : ℕ) (reply : Reply) : Type 0 where
   pub returned : HasReturned w.log.events client place reply
@@ -41,3 +52,23 @@ pub record IsToldOfCall (w : State) (client : Client) (place number : ℕ) : Typ
   pub cut_off : IsCutOff w.log.events client place
   pub told : (reply : Reply) → IsTakenAs (order_in w) place reply
       → IsToldTaken w.log.events client number reply cut_off.end
+
+-- the list has a call that ran in the queue of this world, from this place, and this became of it
+pub record HasEndedCall (s : Sessioned) (list : List Entry) (w : State) (place : ℕ) (end : End) : Type 0 where
+  pub slot : ℕ
+  pub here : world_at s.broker slot ≡ Some w
+  pub has : HasEntryAt list slot place
+  pub ended : has.entry.end ≡ end
+
+-- each call that the list says was answered, in a queue of either kind, returned that reply, and took effect with it
+abbrev pub AreAnswersTaken : Sessioned → Client → List Entry → Type 0
+AreAnswersTaken s client list =
+    (w : State) (place : ℕ) (reply : Reply) → HasEndedCall s list w place (Answered reply)
+    → IsAnsweredAs w client place reply
+
+-- each call of a log queue that the list says was interrupted was ended by a crash, and took effect only where the
+-- client was told so
+abbrev pub AreInterruptedTold : Sessioned → Client → List Entry → Type 0
+AreInterruptedTold s client list =
+    (w : State) (place : ℕ) (call : HasEndedCall s list w place Interrupted) → w.shape.kind ≡ log_kind
+    → IsToldOfCall w client place (number_or_zero call.has.entry.number)

@@ -26,6 +26,10 @@ pub record IsMomentOf (first session : Sessioned) (kept : List ℕ) : Type 0 whe
   pub boots : AreBootWords kept
   pub told : IsSettledTold session
 
+-- so it is of the session itself, from which all others go on
+abbrev pub IsFirstMoment : Sessioned → Type 0
+IsFirstMoment first = IsMomentOf first first first.broker.words.kept
+
 -- what was handed on: the changes, and the session as it was at the last time, or when the seats were given; and the
 -- sessions that who hands on has assured
 pub record HandedOn : Type 0 where

@@ -1,6 +1,8 @@
 -- Which sessions may be shared, and under which name.
 use Rattle.std.specs.Prelude.{◌≡◌, ◌⊎◌, ℕ, true, false, Ok, Some}
 use Rattle.words.specs.declared.call.Client.{Client}
+use Rattle.words.specs.declared.refusal.Refusal.{Refusal}
+use Rattle.words.specs.declared.refusal.Refusal.TheVariants.{Busy, NoMemory}
 use Rattle.interleave.specs.Verdicts.{number_under_way}
 use Rattle.named.specs.Brokers.{Brokered, answer_at, is_creating}
 use Rattle.session.specs.Sessions.{Sessioned}
@@ -27,6 +29,10 @@ HasNoCall b slot = (client : Client) (number : ℕ) → IsCalling b slot client 
 pub record IsNotInUse (b : Brokered) : Type 0 where
   pub creating : is_creating b ≡ false
   pub calls : (slot : ℕ) → HasNoCall b slot
+
+-- why a session is not shared: it is in use; or it is not, and there is no memory
+abbrev pub IsWhyNotOpened : Brokered → Refusal → Type 0
+IsWhyNotOpened b refusal = ((refusal ≡ Busy) × IsInUse b) ⊎ ((refusal ≡ NoMemory) × IsNotInUse b)
 
 -- a session that has no name yet, with its rolls
 pub record Unnamed : Type 0 where

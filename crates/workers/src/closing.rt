@@ -1,10 +1,10 @@
 //! How the histories end, and how a shared session is taken back.
 
-ghost use Rattle.std.specs.Prelude.{◌≡◌, ◌++◌, [], length, IfErr, IfOk, IsTrue, OnErr, OnOk, slice_set};
+ghost use Rattle.std.specs.Prelude.{◌≡◌, ◌++◌, [], length, IfErr, IfOk, IsTrue, OnErr, OnOk};
 ghost use Rattle.named.specs.Rotating.{IsRotated};
 ghost use Rattle.notes.specs.Noting.{IsMadeBy};
 ghost use Rattle.persist.specs.Noted.{applied};
-ghost use Rattle.roll.specs.Rule.{IsKeeper, rows_of};
+ghost use Rattle.roll.specs.Rule.{IsKeeper, IsKeeperWith, rows_of};
 ghost use Rattle.session.specs.Keeping.{SessionGoesOn};
 ghost use Rattle.session.specs.Promises.{KeepsNumbers};
 ghost use Rattle.workers.specs.Moments.{GoesOnLater, IsMomentOf};
@@ -35,7 +35,7 @@ fn emptied<J: Naming>(roll: &Roll<Entry>, keeper: &mut Token<Entry>, seat: Seat<
     requires keeper { IsKeeper J.roll.lists (rows_of keeper.old) keeper.old }
     ensures client { result.client ≡ seat.client }
     ensures list { result.list.items ≡ [] }
-    ensures keeper { IsKeeper J.roll.lists (slice_set (rows_of keeper.old) seat.client.0 []) keeper.new }
+    ensures keeper { IsKeeperWith J.roll.lists keeper.old seat.client.0 [] keeper.new }
 {
     let Seat {
         client,
@@ -149,7 +149,7 @@ impl<J: Naming> Shared<J> {
     }
 
     /// As [`Shared::close`], with a last hand-on, which nothing follows: all that was handed on makes exactly the kept
-    /// words of the session, which is at its last moment. Of the batch it is refused as [`Shared::hand_on`] is.
+    /// words of the session, which is at its last moment. Of the batch it is refused as [`Shared::hand_on_to`] is.
     pub fn close_handing_on(
         self,
         alloc: Global,

@@ -1,8 +1,8 @@
 //! What is done to a shared broker as a whole, and receipts of it.
 
-ghost use Rattle.std.specs.Prelude.{◌≡◌, ◌≤◌, ◌++◌, ◌∷◌, [], slice_get, slice_set, Some, vec_capacity};
+ghost use Rattle.std.specs.Prelude.{◌≡◌, ◌≤◌, ◌++◌, ◌∷◌, [], slice_get, Some, vec_capacity};
 ghost use Rattle.workers.specs.Deeds.{AreAmong};
-ghost use Rattle.roll.specs.Rule.{IsHolder, IsKeeper, place_of, rows_of};
+ghost use Rattle.roll.specs.Rule.{IsHolder, IsKeeper, IsKeeperWith, place_of, rows_of};
 ghost use Rattle.workers.specs.declared.deeds.Deed.{Deed as AnyDeed};
 
 use crate::naming::Naming;
@@ -56,8 +56,7 @@ impl<J: Naming> Receipt<J> {
         requires roll { roll.now ≡ J.roll.deeds }
         requires keeper { IsKeeper J.roll.deeds (rows_of register.old.keeper) register.old.keeper }
         ensures before { slice_get (rows_of register.old.keeper) (place_of self.token) ≡ Some (self.deed ∷ []) }
-        ensures keeper { IsKeeper J.roll.deeds (slice_set (rows_of register.old.keeper) (place_of self.token) [])
-            register.new.keeper }
+        ensures keeper { IsKeeperWith J.roll.deeds register.old.keeper (place_of self.token) [] register.new.keeper }
     {
         register.row.clear();
         roll.write(&mut register.keeper, self.token, &register.row);
@@ -125,8 +124,7 @@ impl Register {
         requires roll { roll.now ≡ J.roll.deeds }
         requires keeper { IsKeeper J.roll.deeds (rows_of self.old.keeper) self.old.keeper }
         ensures before { slice_get (rows_of self.old.keeper) 0 ≡ Some operator }
-        ensures keeper { IsKeeper J.roll.deeds
-            (slice_set (rows_of self.old.keeper) 0 (operator ++ AnyDeed.Crash ∷ [])) self.new.keeper }
+        ensures keeper { IsKeeperWith J.roll.deeds self.old.keeper 0 (operator ++ AnyDeed.Crash ∷ []) self.new.keeper }
         ensures stops { result ≡ operator ++ AnyDeed.Crash ∷ [] }
     {
         self.row.clear();

@@ -1,6 +1,6 @@
 //! How changes of kept words are handed on from under the lock, and the session marked.
 
-ghost use Rattle.std.specs.Prelude.{◌≡◌, ◌<◌, ◌++◌, ◌∷◌, [], length, true, All, Contains, IfErr, IfOk, OnErr, OnOk};
+ghost use Rattle.std.specs.Prelude.{◌≡◌, ◌<◌, ◌++◌, ◌∷◌, [], length, true, All, Contains, IfErr, IfNone, IfOk, IfSome, OnErr, OnOk, OnSome};
 ghost use Rattle.persist.specs.Noted.{applied};
 ghost use Rattle.notes.specs.Noting.{IsMadeBy};
 ghost use Rattle.roll.specs.Rule.{IsHolder, row_of};
@@ -141,6 +141,48 @@ impl<J: Naming> Locked<J> {
         (Handed::new(holder, last, assuring), marked, has)
     }
 
+    /// Hears a mark, from whose session that of now goes on. It is handed back as it was.
+    fn hear(&mut self, marked: Marked<J>) -> Marked<J>
+        ensures later { GoesOnLater marked self.new.session }
+        ensures mark { result ≡ marked }
+        ensures same { self.new ≡ self.old }
+    {
+        self.marks.hear(marked)
+    }
+
+    /// Hands on as [`Locked::hand_on`] does, where the last hand-on does not go on from what was marked.
+    fn hand_on_to(
+        &mut self,
+        handed: Handed<J>,
+        marked: Marked<J>,
+        fresh: Vec<Change>,
+    ) -> (Handed<J>, Marked<J>, Result<Option<Vec<Change>>, Refusal>)
+        requires { fresh.items ≡ [] }
+        ensures row { IfOk result.2 (λ some. IfSome some (λ batch. result.0.changes ≡ handed.changes ++ batch.items)) }
+        ensures made { IfOk result.2 (λ some. OnSome some
+            (IsMadeBy result.0.changes J.first.broker.words.kept self.new.session.broker.words.kept)) }
+        ensures moment { IfOk result.2 (λ some. OnSome some
+            (IsMomentOf J.first result.0.last (applied result.0.changes J.first.broker.words.kept))) }
+        ensures none { IfOk result.2 (λ some. IfNone some (result.0 ≡ handed)) }
+        ensures later { OnOk result.2 (GoesOnLater handed.last result.0.last) }
+        ensures marked { OnOk result.2 (GoesOnLater marked result.0.last) }
+        ensures mark { result.1 ≡ marked }
+        ensures assured { result.0.assured ≡ handed.assured }
+        ensures same { OnErr result.2 (result.0 ≡ handed) }
+        ensures errors { IfErr result.2 (λ e. e ≡ Refusal.NoMemory) }
+    {
+        let (handed, marked, has) = self.has_handed(handed, marked);
+        if has {
+            return (handed, marked, Ok(None));
+        }
+        let marked = self.hear(marked);
+        let (handed, batch) = self.hand_on(handed, fresh);
+        match batch {
+            Ok(batch) => (handed, marked, Ok(Some(batch))),
+            Err(refusal) => (handed, marked, Err(refusal)),
+        }
+    }
+
     /// Marks the session.
     fn mark_now(&mut self) -> Marked<J>
         ensures moment { IsMomentOf J.first result result.broker.words.kept }
@@ -195,44 +237,34 @@ impl<J: Naming> Locked<J> {
 impl<J: Naming> Shared<J> {
     /// Hands on all changes of kept words that were noted and not handed on yet, in the order of the acts that made
     /// them. All that were handed on so far make of the kept words that there were when the seats were given those of
-    /// a moment, at which the session goes on from what it was at the hand-on before. The lock is held for the exchange
-    /// of two vectors alone. It is refused for want of memory (NoMemory), and then nothing is handed on.
-    pub fn hand_on<R: Wait>(
+    /// a moment, at which the session goes on from what it was at the hand-on before. Where the last hand-on goes on
+    /// from the marked session already, nothing is handed on (None); else this one does. The lock is held once, for the
+    /// exchange of two vectors alone. It is refused for want of memory (NoMemory), and then nothing is handed on.
+    pub fn hand_on_to<R: Wait>(
         &self,
         rt: &R,
         alloc: Global,
         handed: Handed<J>,
-    ) -> (Handed<J>, Result<Vec<Change>, Refusal>)
-        ensures row { IfOk result.1 (λ batch. result.0.changes ≡ handed.changes ++ batch.items) }
-        ensures within { OnOk result.1
-            (All (λ change. change.word < length J.first.broker.words.kept) result.0.changes) }
-        ensures moment { OnOk result.1
-            (IsMomentOf J.first result.0.last (applied result.0.changes J.first.broker.words.kept)) }
-        ensures later { OnOk result.1 (GoesOnLater handed.last result.0.last) }
+        marked: Marked<J>,
+    ) -> (Handed<J>, Marked<J>, Result<Option<Vec<Change>>, Refusal>)
+        ensures row { IfOk result.2 (λ some. IfSome some (λ batch. result.0.changes ≡ handed.changes ++ batch.items)) }
+        ensures within { IfOk result.2 (λ some. OnSome some
+            (All (λ change. change.word < length J.first.broker.words.kept) result.0.changes)) }
+        ensures moment { IfOk result.2 (λ some. OnSome some
+            (IsMomentOf J.first result.0.last (applied result.0.changes J.first.broker.words.kept))) }
+        ensures none { IfOk result.2 (λ some. IfNone some (result.0 ≡ handed)) }
+        ensures later { OnOk result.2 (GoesOnLater handed.last result.0.last) }
+        ensures marked { OnOk result.2 (GoesOnLater marked result.0.last) }
+        ensures mark { result.1 ≡ marked }
         ensures assured { result.0.assured ≡ handed.assured }
-        ensures same { OnErr result.1 (result.0 ≡ handed) }
-        ensures errors { IfErr result.1 (λ e. e ≡ Refusal.NoMemory) }
+        ensures same { OnErr result.2 (result.0 ≡ handed) }
+        ensures errors { IfErr result.2 (λ e. e ≡ Refusal.NoMemory) }
     {
         let mut fresh = Vec::new(alloc);
         if fresh.reserve(CREATION_STEPS).is_err() {
-            return (handed, Err(Refusal::NoMemory));
+            return (handed, marked, Err(Refusal::NoMemory));
         }
-        lock(rt, &self.locked).hand_on(handed, fresh)
-    }
-
-    /// Whether the session of the last hand-on goes on from the marked one, as it does where the mark was made before.
-    /// Both come back as they were.
-    pub fn has_handed<R: Wait>(
-        &self,
-        rt: &R,
-        handed: Handed<J>,
-        marked: Marked<J>,
-    ) -> (Handed<J>, Marked<J>, bool)
-        ensures handed { result.2 ≡ true → GoesOnLater marked handed.last }
-        ensures hander { result.0 ≡ handed }
-        ensures mark { result.1 ≡ marked }
-    {
-        lock(rt, &self.locked).has_handed(handed, marked)
+        lock(rt, &self.locked).hand_on_to(handed, marked, fresh)
     }
 
     /// Marks the session as it is now, which is at a moment.

@@ -161,12 +161,17 @@ impl<J: Naming> Marks<J> {
         self.mark(session)
     }
 
-    /// Hears a mark.
-    fn hear(&mut self, marked: Marked<J>)
+    /// Hears a mark, whose session is one of those that were marked. It is handed back as it was.
+    pub(crate) fn hear(&mut self, marked: Marked<J>) -> Marked<J>
         ensures heard { Contains self.old marked }
+        ensures mark { result ≡ marked }
         ensures marks { self.new ≡ self.old }
     {
-        self.teller.hear(marked.mark);
+        let mark = self.teller.hear(marked.mark);
+        Marked {
+            mark,
+            of: PhantomData,
+        }
     }
 
     /// Whether the session of the other mark goes on from that of the one. Both are handed back as they were.

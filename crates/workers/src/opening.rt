@@ -1,9 +1,9 @@
 //! How a session comes to be shared.
 
-ghost use Rattle.std.specs.Prelude.{◌≡◌, ◌⊎◌, ◌∷◌, [], false, true, IfErr, IfOk, OnOk};
+ghost use Rattle.std.specs.Prelude.{◌≡◌, ◌∷◌, [], false, true, IfErr, IfOk, OnOk};
 ghost use Rattle.roll.specs.Rule.{IsKeeper};
 ghost use Rattle.workers.specs.Noting.{IsBooked};
-ghost use Rattle.workers.specs.Opening.{IsInUse, IsNameOf, IsNotInUse, HasNoCall};
+ghost use Rattle.workers.specs.Opening.{IsInUse, IsNameOf, IsNotInUse, IsWhyNotOpened, HasNoCall};
 ghost use Rattle.workers.specs.Seats.{AreAllInOrder, AreEmpty};
 
 use crate::book::Book;
@@ -111,8 +111,7 @@ impl Opened {
         ensures session { IfOk result (λ opened. opened.session ≡ session) }
         ensures quiet { OnOk result (IsNotInUse session.broker) }
         ensures back { IfErr result (λ not. not.session ≡ session) }
-        ensures errors { IfErr result (λ not. ((not.refusal ≡ Refusal.Busy) × IsInUse session.broker)
-            ⊎ ((not.refusal ≡ Refusal.NoMemory) × IsNotInUse session.broker)) }
+        ensures errors { IfErr result (λ not. IsWhyNotOpened session.broker not.refusal) }
     {
         if is_in_use(&session) {
             return Err(NotOpened {

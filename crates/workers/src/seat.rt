@@ -1,7 +1,7 @@
 //! Seats.
 
-ghost use Rattle.std.specs.Prelude.{◌≡◌, ◌<◌, ◌++◌, ◌∷◌, [], slice_get, slice_set, Some, true, vec_capacity, vec_len};
-ghost use Rattle.roll.specs.Rule.{IsHolder, IsKeeper, rows_of};
+ghost use Rattle.std.specs.Prelude.{◌≡◌, ◌<◌, ◌++◌, ◌∷◌, [], slice_get, Some, true, vec_capacity, vec_len};
+ghost use Rattle.roll.specs.Rule.{IsHolder, IsKeeper, IsKeeperWith, rows_of};
 ghost use Rattle.workers.specs.Lists.{ends_open, with_end};
 
 use crate::entry::{End, Entry, end_last, has_open_call};
@@ -137,8 +137,7 @@ pub(crate) fn with_entry<J: Naming>(
     ensures before { slice_get (rows_of keeper.old) seat.client.0 ≡ Some seat.list.items }
     ensures client { result.client ≡ seat.client }
     ensures list { result.list.items ≡ seat.list.items ++ entry ∷ [] }
-    ensures keeper { IsKeeper J.roll.lists (slice_set (rows_of keeper.old) seat.client.0 (seat.list.items ++ entry ∷ []))
-        keeper.new }
+    ensures keeper { IsKeeperWith J.roll.lists keeper.old seat.client.0 (seat.list.items ++ entry ∷ []) keeper.new }
 {
     let Seat {
         client,
@@ -171,8 +170,7 @@ pub(crate) fn with_last<J: Naming>(
     ensures before { slice_get (rows_of keeper.old) seat.client.0 ≡ Some seat.list.items }
     ensures client { result.client ≡ seat.client }
     ensures list { result.list.items ≡ with_end end seat.list.items }
-    ensures keeper { IsKeeper J.roll.lists (slice_set (rows_of keeper.old) seat.client.0 (with_end end seat.list.items))
-        keeper.new }
+    ensures keeper { IsKeeperWith J.roll.lists keeper.old seat.client.0 (with_end end seat.list.items) keeper.new }
 {
     let Seat {
         client,

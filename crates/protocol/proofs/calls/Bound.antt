@@ -22,7 +22,7 @@ use Rattle.arena.specs.declared.place.Place.TheVariants.{Head, Tail, Next, Mark}
 use Rattle.stepper.specs.Preparation.{preparation_of, preparation_from, prepared_to, prepared_with}
 use Rattle.stepper.specs.Step.{place_of}
 use Rattle.stepper.specs.Steps.{keep_steps, load_steps}
-use Rattle.stepper.specs.Loading.{part_next, loaded_with, parts_left}
+use Rattle.stepper.specs.Loading.{part_next, parts_left}
 use Rattle.stepper.specs.declared.loading.Loading.{Loading}
 use Rattle.stepper.specs.declared.loading.Loading.TheVariants.{Length as at_length, First as at_first, Second as at_second, Third as at_third}
 use Rattle.stepper.specs.declared.resume.After.{After}

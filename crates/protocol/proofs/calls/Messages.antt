@@ -4,20 +4,18 @@ use Rattle.std.specs.Prelude.{slice_get}
 use Rattle.std.proofs.lemmas.Bool.{cases_lt}
 use Rattle.words.specs.PlainQueue.{Value, FitsValue}
 use Rattle.words.proofs.Facts.{parts_cut}
-use Rattle.words.specs.declared.call.Call.{Call}
 use Rattle.words.specs.declared.call.Call.TheVariants.{Enq}
 use Rattle.words.specs.declared.call.NodeId.{NodeId}
 use Rattle.arena.specs.Place.{number_of, part_number}
 use Rattle.arena.specs.Shape.{Shape}
-use Rattle.arena.specs.Words.{part_at, item_part, item_parts, HoldsItem}
+use Rattle.arena.specs.Words.{part_at, item_part, item_parts}
 use Rattle.arena.specs.declared.place.Part.{Part}
 use Rattle.arena.specs.declared.place.Part.TheVariants.{Length, First, Second, Third}
-use Rattle.arena.specs.declared.place.Place.{Place}
 use Rattle.arena.specs.declared.place.Place.TheVariants.{Item}
 use Rattle.arena.specs.declared.place.Write.{Write}
 use Rattle.stepper.specs.Preparation.{preparation_of, part_write}
 use Rattle.stepper.specs.declared.prepare.Begun.{Begun}
-use Rattle.protocol.specs.Machine.{Memory, put, with_store}
+use Rattle.protocol.specs.Machine.{Memory, with_store}
 use Rattle.protocol.specs.invariants.Base.{IsMessage}
 use Rattle.protocol.specs.invariants.Knows.{Preparing, Unstored}
 use Rattle.protocol.specs.invariants.Ledger.{Ledger}

@@ -3,7 +3,7 @@ use Rattle.std.proofs.Common.{◌≡◌, ◌≢◌, ℕ, suc, ◌+◌, ◌≤◌
 use Rattle.std.specs.Prelude.{slice_get}
 use Rattle.std.proofs.lemmas.Bool.{cases_eq, eqb-true, eqb-false}
 use Rattle.arena.specs.declared.place.Part.TheVariants.{Length, First, Second, Third}
-use Rattle.stepper.specs.Loading.{part_next, loaded_with, IsLoaded}
+use Rattle.stepper.specs.Loading.{part_next}
 use Rattle.stepper.specs.declared.loading.Loading.{Loading}
 use Rattle.stepper.specs.declared.loading.Loading.TheVariants.{Length as at_length, First as at_first}
 use Rattle.stepper.specs.declared.loading.Loading.TheVariants.{Second as at_second, Third as at_third}

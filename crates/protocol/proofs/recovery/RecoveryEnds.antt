@@ -2,8 +2,7 @@
 use Rattle.std.proofs.Common.{◌≡◌, ◌≢◌, ℕ, zero, suc, ◌+◌, ◌≤◌, ◌<◌, ◌⊎◌, inl, inr, List, [], ◌∷◌, ◌++◌, length, Bool, true, false, if◌then◌else◌, ◌==◌, Option, Some, None, refl, sym, ◌∙◌, ap, subst, arith}
 use Rattle.std.specs.Prelude.{slice_get, replicate}
 use Rattle.std.proofs.lemmas.Bool.{cases_eq, eqb-true, eqb-false}
-use Rattle.arena.specs.declared.place.Part.TheVariants.{First}
-use Rattle.words.specs.PlainQueue.{Value, FitsValue}
+use Rattle.words.specs.PlainQueue.{Value}
 use Rattle.words.specs.declared.call.Kind.{Kind}
 use Rattle.words.specs.declared.call.Kind.TheVariants.{Durable, Log}
 use Rattle.words.specs.declared.call.NodeId.{NodeId}
@@ -16,7 +15,7 @@ use Rattle.arena.specs.Chain.{IsChain, IsAmong, LeadsTo}
 use Rattle.arena.specs.Place.{number_of}
 use Rattle.arena.specs.Ranges.{Fits}
 use Rattle.arena.specs.Shape.{Shape, greatest}
-use Rattle.arena.specs.Words.{links, marks, values, cells, statuses, value_of, values_fit}
+use Rattle.arena.specs.Words.{links, marks, cells, statuses}
 use Rattle.arena.specs.declared.place.Place.{Place}
 use Rattle.arena.specs.declared.place.Place.TheVariants.{Head, Tail, Announcement, Bump, Item, Next, Mark, Cell, Number}
 use Rattle.arena.specs.declared.place.Place.TheVariants.{EntryKind, Status}

@@ -11,7 +11,7 @@ use Rattle.arena.specs.Chain.LeadsTo.{there, on}
 use Rattle.arena.specs.Content.{chain_of}
 use Rattle.arena.specs.Place.{IsRecord, number_of}
 use Rattle.arena.specs.Shape.{Shape}
-use Rattle.arena.specs.Words.{links, marks, values, cells, entry_kinds, statuses, entry_nodes, announcements}
+use Rattle.arena.specs.Words.{links, marks, cells, entry_kinds, statuses, entry_nodes, announcements}
 use Rattle.arena.specs.declared.place.Place.{Place}
 use Rattle.arena.specs.declared.place.Place.TheVariants.{Head, Tail, Bump, Item, Next, Mark, Cell, Insert, Number}
 use Rattle.arena.specs.declared.place.Place.TheVariants.{EntryKind, Status, EntryNode}

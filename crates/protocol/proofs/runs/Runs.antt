@@ -18,7 +18,7 @@ use Rattle.events.specs.Parts.{IsPartOf}
 use Rattle.events.proofs.Facts.{part_of_part, part_same, queue_of_order}
 use Rattle.recover.specs.declared.recovery.Recovery.{Recovery}
 use Rattle.protocol.specs.Acts.{number_fits, call_fits, may_start, start_attempt, step_attempt, recovery_attempt}
-use Rattle.protocol.specs.Acts.{with_act, run, IsNew, IsExplained, TellsByKept}
+use Rattle.protocol.specs.Acts.{with_act, run, IsNew, IsReached, IsExplained, TellsByKept, HasNoneTwice}
 use Rattle.protocol.specs.declared.acts.Act.{Act}
 use Rattle.sound_words.specs.Sound.{IsSound}
 use Rattle.protocol.specs.declared.acts.Act.TheVariants.{Start, Step, Evict, Crash, Recover}
@@ -122,14 +122,15 @@ is_explained w v = record {
   holds = agrees w v ∙ sym (queue_of_order w.shape.kind w.base w.told w.log.events w.log.effects (in_log w v));
 }
 
-pub every_history : (s : Shape) (told : List Told) (acts : List (Act Place)) → IsNew s told → IsExplained (run (new_world s told) acts)
-every_history s told acts new = is_explained (run (new_world s told) acts) (run_kept acts (new_world s told) (new_kept s told new)).inv
+-- each world that a new queue comes to keeps the invariants
+pub inv_reached : (s : Shape) (w : World) → IsReached s w → Inv w
+inv_reached s w r = subst (λ x. Inv x) r.by (run_kept r.acts (new_world s r.told) (new_kept s r.told r.new)).inv
 
-pub nothing_back : (s : Shape) (told : List Told) (acts later : List (Act Place)) → IsNew s told → IsPartOf (order_of (run (new_world s told) acts).log.effects) (order_of (run (new_world s told) (acts ++ later)).log.effects)
-nothing_back s told acts later new =
-    let w : World = run (new_world s told) acts in
-    let v : Inv w = (run_kept acts (new_world s told) (new_kept s told new)).inv in
-    subst (λ x. IsPartOf (order_of w.log.effects) (order_of x.log.effects)) (sym (run_more acts later (new_world s told))) (run_kept later w v).part
+pub every_history : (s : Shape) (w : World) → IsReached s w → IsExplained w
+every_history s w r = is_explained w (inv_reached s w r)
+
+pub nothing_back : (s : Shape) (w : World) (later : List (Act Place)) → IsReached s w → IsPartOf (order_of w.log.effects) (order_of (run w later).log.effects)
+nothing_back s w later r = (run_kept later w (inv_reached s w r)).part
 
 pub tells_by_kept : (w : World) → Inv w → TellsByKept w
 tells_by_kept w v = record {
@@ -137,8 +138,8 @@ tells_by_kept w v = record {
   each = λ r tells e q. (told_is w v r e tells q).1;
 }
 
-pub kept_told : (s : Shape) (told : List Told) (acts : List (Act Place)) → IsNew s told → TellsByKept (run (new_world s told) acts)
-kept_told s told acts new = tells_by_kept (run (new_world s told) acts) (run_kept acts (new_world s told) (new_kept s told new)).inv
+pub kept_told : (s : Shape) (w : World) → IsReached s w → TellsByKept w
+kept_told s w r = tells_by_kept w (inv_reached s w r)
 
 -- what a list has somewhere is among its items
 got_among : (xs : List ℕ) (i x : ℕ) → slice_get xs i ≡ Some x → IsAmong x xs
@@ -157,10 +158,7 @@ once (y ∷ ys) d (suc i) zero x e f =
     absurd (d.0 (subst (λ z. IsAmong z ys) (sym same) (got_among ys i x e)))
 once (y ∷ ys) d (suc i) (suc j) x e f = ap suc (once ys d.1 i j x e f)
 
-pub no_node_again : (s : Shape) (told : List Told) (acts : List (Act Place)) → IsNew s told → (i j n : ℕ)
-    → slice_get (chain_of (run (new_world s told) acts).shape (run (new_world s told) acts).memory.kept) i ≡ Some n
-    → slice_get (chain_of (run (new_world s told) acts).shape (run (new_world s told) acts).memory.kept) j ≡ Some n → i ≡ j
-no_node_again s told acts new =
-    let w : World = run (new_world s told) acts in
-    let h : IsSound w.shape w.memory.kept = words_sound w (run_kept acts (new_world s told) (new_kept s told new)).inv in
+pub no_node_again : (w : World) → Inv w → HasNoneTwice (chain_of w.shape w.memory.kept)
+no_node_again w v =
+    let h : IsSound w.shape w.memory.kept = words_sound w v in
     once (chain_of w.shape w.memory.kept) (distinct (links w.memory.kept) 0 (chain_of w.shape w.memory.kept) h.chain.ends)

@@ -1,26 +1,23 @@
 -- A client that goes on alone ends its call.
-use Rattle.std.proofs.Common.{if◌then◌else◌, Option, ◌≡◌, ℕ, zero, suc, ◌-◌, ◌≤◌, List, Some, None, refl, sym, ◌∙◌, ap, subst, arith}
+use Rattle.std.proofs.Common.{if◌then◌else◌, Option, ◌≡◌, ℕ, zero, suc, ◌-◌, ◌≤◌, Some, None, refl, sym, ◌∙◌, ap, subst, arith}
 use Rattle.std.specs.Prelude.{replicate}
 use Rattle.std.proofs.lemmas.Bool.{eq-eqb}
 use Rattle.words.specs.declared.call.Client.{Client}
-use Rattle.words.specs.declared.told.Told.{Told}
 use Rattle.arena.specs.Shape.{Shape}
-use Rattle.arena.specs.declared.place.Place.{Place}
 use Rattle.helping.specs.declared.op.Op.{Op}
 use Rattle.stepper.specs.declared.resume.After.{After}
 use Rattle.stepper.specs.declared.resume.After.TheVariants.{More, Done}
 use Rattle.recover.specs.declared.recovery.Recovery.{Recovery}
 use Rattle.words.specs.declared.call.Reply.{Reply}
 use Rattle.words.specs.declared.limits.TheConstants.{MAX_STEPS_ALONE}
-use Rattle.protocol.specs.Acts.{with_act, step_attempt, run, IsNew}
-use Rattle.protocol.specs.declared.acts.Act.{Act}
+use Rattle.protocol.specs.Acts.{with_act, step_attempt, run, IsReached}
 use Rattle.protocol.specs.declared.acts.Act.TheVariants.{Step}
-use Rattle.protocol.specs.Machine.{World, Memory, with_step, with_next, next_of, new_world}
+use Rattle.protocol.specs.Machine.{World, Memory, with_step, with_next, next_of}
 use Rattle.protocol.specs.declared.UnderWay.{UnderWay}
 use Rattle.protocol.proofs.calls.Bound.{left, left_most, Falls, step_falls}
 use Rattle.protocol.specs.invariants.Worlds.{Inv}
 use Rattle.protocol.proofs.worlds.Facts.{is_ready}
-use Rattle.protocol.proofs.runs.Runs.{act_kept, run_kept, new_kept}
+use Rattle.protocol.proofs.runs.Runs.{act_kept, inv_reached}
 
 -- how many steps a call has left at most
 abbrev pub call_left : Shape → Memory → Option UnderWay → ℕ
@@ -75,8 +72,7 @@ most_left : (s : Shape) (m : Memory) (u : Option UnderWay) → call_left s m u �
 most_left s m None = omega arith
 most_left s m (Some u) = left_most s m u.op
 
-pub calls_end : (s : Shape) (told : List Told) (acts : List (Act Place)) (client : Client) → IsNew s told → (run (new_world s told) acts).recovery ≡ None
-    → (run (run (new_world s told) acts) (replicate MAX_STEPS_ALONE (Step client))).calls client.0 ≡ None
-calls_end s told acts client new e =
-    let w : World = run (new_world s told) acts in
-    alone_ends MAX_STEPS_ALONE w (run_kept acts (new_world s told) (new_kept s told new)).inv e client (most_left w.shape w.memory (w.calls client.0))
+pub calls_end : (s : Shape) (w : World) (client : Client) → IsReached s w → w.recovery ≡ None
+    → (run w (replicate MAX_STEPS_ALONE (Step client))).calls client.0 ≡ None
+calls_end s w client r e =
+    alone_ends MAX_STEPS_ALONE w (inv_reached s w r) e client (most_left w.shape w.memory (w.calls client.0))

@@ -1,13 +1,14 @@
 -- Recovery ends, whatever else happens meanwhile but another crash.
-use Rattle.std.proofs.Common.{if◌then◌else◌, Option, Bool, true, false, ◌≡◌, ℕ, ◌+◌, ◌-◌, ◌*◌, ◌≤◌, List, [], ◌∷◌, Some, None, refl, sym, ◌∙◌, ap, subst, arith}
+use Rattle.std.proofs.Common.{if◌then◌else◌, Option, Bool, true, false, ◌≡◌, ℕ, ◌+◌, ◌-◌, ◌≤◌, List, [], ◌∷◌, Some, None, refl, sym, ◌∙◌, ap, subst, arith}
 use Rattle.words.specs.declared.call.Call.{Call}
 use Rattle.words.specs.declared.call.Client.{Client}
-use Rattle.words.specs.declared.told.Told.{Told}
+use Rattle.arena.specs.Content.{chain_of}
 use Rattle.arena.specs.Shape.{Shape}
 use Rattle.arena.specs.declared.place.Place.{Place}
 use Rattle.recover.specs.Table.{boot_recovery}
 use Rattle.recover.specs.declared.recovery.Recovery.{Recovery}
-use Rattle.protocol.specs.Acts.{may_start, start_attempt, step_attempt, recovery_attempt, with_act, run, recoveries, HasNoCrash, IsNew}
+use Rattle.protocol.specs.Acts.{may_start, start_attempt, step_attempt, recovery_attempt, with_act, run, recoveries, HasNoCrash, HasNoneTwice, IsReached}
+use Rattle.protocol.specs.Down.{RecoveryEnds}
 use Rattle.protocol.specs.declared.acts.Act.{Act}
 use Rattle.protocol.specs.declared.acts.Act.TheVariants.{Start, Step, Evict, Crash, Recover}
 use Rattle.protocol.specs.Machine.{World, with_start, with_step, with_crash, new_world}
@@ -16,7 +17,7 @@ use Rattle.protocol.specs.invariants.Worlds.{Inv}
 use Rattle.protocol.proofs.worlds.Facts.{inv_crashed, left_falls}
 use Rattle.protocol.specs.Measure.{most_steps, weight, steps_left_at, steps_left}
 use Rattle.protocol.proofs.recovery.RecoveryBound.{weight_most}
-use Rattle.protocol.proofs.runs.Runs.{act_kept, run_kept, new_kept}
+use Rattle.protocol.proofs.runs.Runs.{act_kept, inv_reached, no_node_again}
 
 -- other acts take none of them
 start_left : (w : World) (client : Client) (number : ℕ) (call : Call) (r : Option Recovery) (u : Option UnderWay) → steps_left (start_attempt w client number call r u) ≡ steps_left w
@@ -88,12 +89,15 @@ run_shape (Evict p ∷ acts) w = run_shape acts (with_act w (Evict p))
 run_shape (Crash ∷ acts) w = run_shape acts (with_act w Crash)
 run_shape (Recover ∷ acts) w = run_shape acts (with_act w Recover) ∙ recover_shape w w.recovery
 
-pub ends : (s : Shape) (told : List Told) (acts later : List (Act Place)) → IsNew s told → HasNoCrash later → most_steps s ≤ recoveries later
-    → (run (with_crash (run (new_world s told) acts)) later).recovery ≡ None
-ends s told acts later new none le =
-    let w : World = run (new_world s told) acts in
-    let v : Inv w = (run_kept acts (new_world s told) (new_kept s told new)).inv in
-    let same : w.shape ≡ s = run_shape acts (new_world s told) in
+-- each world that a new queue comes to has its shape
+pub reached_shape : (s : Shape) (w : World) → IsReached s w → w.shape ≡ s
+reached_shape s w r = subst (λ x. x.shape ≡ s) r.by (run_shape r.acts (new_world s r.told))
+
+pub no_node_twice : (s : Shape) (w : World) → IsReached s w → HasNoneTwice (chain_of s w.memory.kept)
+no_node_twice s w r = subst (λ x. HasNoneTwice (chain_of x w.memory.kept)) (reached_shape s w r) (no_node_again w (inv_reached s w r))
+
+pub ends : (s : Shape) (w : World) → IsReached s w → RecoveryEnds (with_crash w)
+ends s w r later none le =
+    let v : Inv w = inv_reached s w r in
     let most : weight w.shape w.memory.kept boot_recovery.at + 2 ≤ most_steps w.shape = weight_most w.shape w.memory.kept in
-    all_left later (with_crash w) (inv_crashed w v) none
-    (omega (arith, most, subst (λ x. most_steps x ≤ recoveries later) (sym same) le))
+    all_left later (with_crash w) (inv_crashed w v) none (omega (arith, most, le))

@@ -10,19 +10,19 @@ use Rattle.arena.specs.declared.place.Place.{Place}
 use Rattle.sound_words.specs.Sound.{IsSound}
 use Rattle.sound_words.specs.Told.{tells_by}
 use Rattle.recover.specs.declared.recovery.Recovery.{Recovery}
-use Rattle.protocol.specs.Acts.{StaysDown, start_attempt, step_attempt, recovery_attempt, with_act, run, IsNew}
+use Rattle.protocol.specs.Acts.{StaysDown, start_attempt, step_attempt, recovery_attempt, with_act, run, IsReached, KeepAlike}
 use Rattle.protocol.specs.declared.acts.Act.{Act}
 use Rattle.protocol.specs.declared.acts.Act.TheVariants.{Start, Step, Evict, Crash, Recover}
 use Rattle.protocol.specs.Booted.{MayBoot, world_at_boot}
-use Rattle.protocol.specs.Down.{IsDown, TellsAfter}
-use Rattle.protocol.specs.Machine.{World, with_eviction, with_crash, new_world}
+use Rattle.protocol.specs.Down.{IsDown, TellAlike, TellsAfter, WhileDown, WillTell}
+use Rattle.protocol.specs.Machine.{World, with_eviction, with_crash}
 use Rattle.protocol.specs.declared.UnderWay.{UnderWay}
 use Rattle.protocol.proofs.boot.Booted.{boots}
 use Rattle.protocol.specs.invariants.Worlds.{Inv}
 use Rattle.protocol.proofs.worlds.Facts.{inv_crashed, still_alike, still_alike_evicted, told_are_now, words_sound, words_nowhere, some_clients}
 use Rattle.protocol.proofs.told.StillTold.{TellsAlike, alike, alike_more}
-use Rattle.protocol.proofs.runs.Runs.{act_kept, run_kept, new_kept}
-use Rattle.protocol.proofs.runs.RunsEnd.{run_shape}
+use Rattle.protocol.proofs.runs.Runs.{act_kept, run_kept, inv_reached}
+use Rattle.protocol.proofs.runs.RunsEnd.{run_shape, reached_shape}
 
 start_alike : (w : World) → w.recovery ≢ None → (client : Client) (number : ℕ) (call : Call) (r : Option Recovery) (u : Option UnderWay) → w.recovery ≡ r
     → TellsAlike w.shape w.memory.kept (start_attempt w client number call r u).memory.kept
@@ -59,21 +59,18 @@ run_alike (act ∷ acts) w v down =
     alike_more w.shape w.memory.kept (with_act w act).memory.kept (run (with_act w act) acts).memory.kept (act_alike w v down.0 act)
     (subst (λ x. TellsAlike x (with_act w act).memory.kept (run (with_act w act) acts).memory.kept) (run_shape (act ∷ []) w) rest)
 
-alike_after : (s : Shape) (told : List Told) (acts later : List (Act Place)) → IsNew s told → StaysDown IsDown with_act (with_crash (run (new_world s told) acts)) later
-    → TellsAlike s (run (new_world s told) acts).memory.kept (run (with_crash (run (new_world s told) acts)) later).memory.kept
-alike_after s told acts later new down =
-    let w : World = run (new_world s told) acts in
-    let v : Inv w = (run_kept acts (new_world s told) (new_kept s told new)).inv in
-    subst (λ x. TellsAlike x w.memory.kept (run (with_crash w) later).memory.kept) (run_shape acts (new_world s told))
+alike_after : (s : Shape) (w : World) → IsReached s w → (later : List (Act Place)) → StaysDown IsDown with_act (with_crash w) later
+    → TellsAlike s w.memory.kept (run (with_crash w) later).memory.kept
+alike_after s w r later down =
+    let v : Inv w = inv_reached s w r in
+    subst (λ x. TellsAlike x w.memory.kept (run (with_crash w) later).memory.kept) (reached_shape s w r)
     (run_alike later (with_crash w) (inv_crashed w v) down)
 
-pub still_tells : (s : Shape) (told : List Told) (acts later : List (Act Place)) → IsNew s told → StaysDown IsDown with_act (with_crash (run (new_world s told) acts)) later
-    → tells_by s (run (with_crash (run (new_world s told) acts)) later).memory.kept ≡ tells_by s (run (new_world s told) acts).memory.kept
-still_tells s told acts later new down = (alike_after s told acts later new down).tells
+pub still_tells : (s : Shape) (w : World) → IsReached s w → WhileDown (with_crash w) (λ v. tells_by s v.memory.kept ≡ tells_by s w.memory.kept)
+still_tells s w r later down = (alike_after s w r later down).tells
 
-pub still_holds : (s : Shape) (told : List Told) (acts later : List (Act Place)) → IsNew s told → StaysDown IsDown with_act (with_crash (run (new_world s told) acts)) later
-    → kept_content s (run (with_crash (run (new_world s told) acts)) later).memory.kept ≡ kept_content s (run (new_world s told) acts).memory.kept
-still_holds s told acts later new down = (alike_after s told acts later new down).holds
+pub still_holds : (s : Shape) (w : World) → IsReached s w → WhileDown (with_crash w) (λ v. kept_content s v.memory.kept ≡ kept_content s w.memory.kept)
+still_holds s w r later down = (alike_after s w r later down).holds
 
 -- so it is these words that tell each client in the end
 pub told_later : (later : List (Act Place)) (w : World) → Inv w → (tells : List Told) → TellsAfter w later tells → tells ≡ tells_by w.shape w.memory.kept
@@ -83,40 +80,28 @@ told_later later w v tells t =
     ∙ ap (λ z. tells_by z x.memory.kept) (run_shape later w)
     ∙ (run_alike later w v t.down).tells
 
-pub told_by_crash : (s : Shape) (told : List Told) (acts later : List (Act Place)) (tells : List Told) → IsNew s told
-    → TellsAfter (with_crash (run (new_world s told) acts)) later tells → tells ≡ tells_by s (run (new_world s told) acts).memory.kept
-told_by_crash s told acts later tells new t =
-    let w : World = run (new_world s told) acts in
-    let v : Inv w = (run_kept acts (new_world s told) (new_kept s told new)).inv in
-    told_later later (with_crash w) (inv_crashed w v) tells t ∙ ap (λ z. tells_by z w.memory.kept) (run_shape acts (new_world s told))
+pub told_by_crash : (s : Shape) (w : World) → IsReached s w → WillTell (with_crash w) (tells_by s w.memory.kept)
+told_by_crash s w r later tells t =
+    told_later later (with_crash w) (inv_crashed w (inv_reached s w r)) tells t ∙ ap (λ z. tells_by z w.memory.kept) (reached_shape s w r)
 
-pub told_alike : (s : Shape) (told other : List Told) (acts others later latest : List (Act Place)) (tells telling : List Told) → IsNew s told → IsNew s other
-    → ((p : Place) → (run (new_world s told) acts).memory.kept p ≡ (run (new_world s other) others).memory.kept p)
-    → TellsAfter (with_crash (run (new_world s told) acts)) later tells → TellsAfter (with_crash (run (new_world s other) others)) latest telling → tells ≡ telling
-told_alike s told other acts others later latest tells telling new newer same t q =
-    told_by_crash s told acts later tells new t ∙ ap (tells_by s) (fun_ext same) ∙ sym (told_by_crash s other others latest telling newer q)
+pub told_alike : (s : Shape) (v w : World) → IsReached s v → IsReached s w → KeepAlike v w → TellAlike (with_crash v) (with_crash w)
+told_alike s v w r q same later latest tells telling t u =
+    told_by_crash s v r later tells t ∙ ap (tells_by s) (fun_ext same) ∙ sym (told_by_crash s w q latest telling u)
 
 -- a queue that begins on sound words tells what these tell
-pub told_by_boot : (s : Shape) (kept : Place → ℕ) (later : List (Act Place)) (tells : List Told) → MayBoot s kept → TellsAfter (world_at_boot s kept (tells_by s kept)) later tells
-    → tells ≡ tells_by s kept
-told_by_boot s kept later tells may t = told_later later (world_at_boot s kept (tells_by s kept)) (boots s kept may) tells t
+pub told_by_boot : (s : Shape) (kept : Place → ℕ) → MayBoot s kept → WillTell (world_at_boot s kept (tells_by s kept)) (tells_by s kept)
+told_by_boot s kept may later tells t = told_later later (world_at_boot s kept (tells_by s kept)) (boots s kept may) tells t
 
 -- the kept words are sound after any acts
-pub kept_sound : (s : Shape) (told : List Told) (acts : List (Act Place)) → IsNew s told → IsSound s (run (new_world s told) acts).memory.kept
-kept_sound s told acts new =
-    let w : World = run (new_world s told) acts in
-    let v : Inv w = (run_kept acts (new_world s told) (new_kept s told new)).inv in
-    subst (λ x. IsSound x w.memory.kept) (run_shape acts (new_world s told)) (words_sound w v)
+pub kept_sound : (s : Shape) (w : World) → IsReached s w → IsSound s w.memory.kept
+kept_sound s w r = subst (λ x. IsSound x w.memory.kept) (reached_shape s w r) (words_sound w (inv_reached s w r))
 
 -- so a queue may begin on them
 may_begin : (w : World) → Inv w → MayBoot w.shape w.memory.kept
 may_begin w v = record { some = (some_clients w v).0; few = (some_clients w v).1; sound = words_sound w v; nowhere = words_nowhere w v }
 
-pub kept_may_begin : (s : Shape) (told : List Told) (acts : List (Act Place)) → IsNew s told → MayBoot s (run (new_world s told) acts).memory.kept
-kept_may_begin s told acts new =
-    let w : World = run (new_world s told) acts in
-    let v : Inv w = (run_kept acts (new_world s told) (new_kept s told new)).inv in
-    subst (λ x. MayBoot x w.memory.kept) (run_shape acts (new_world s told)) (may_begin w v)
+pub kept_may_begin : (s : Shape) (w : World) → IsReached s w → MayBoot s w.memory.kept
+kept_may_begin s w r = subst (λ x. MayBoot x w.memory.kept) (reached_shape s w r) (may_begin w (inv_reached s w r))
 
 pub booted_may_begin : (s : Shape) (kept : Place → ℕ) (acts : List (Act Place)) → MayBoot s kept → MayBoot s (run (world_at_boot s kept (tells_by s kept)) acts).memory.kept
 booted_may_begin s kept acts may =

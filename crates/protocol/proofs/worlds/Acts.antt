@@ -16,7 +16,7 @@ use Rattle.words.specs.declared.call.Reply.{Reply}
 use Rattle.arena.specs.Shape.{Shape, owner, record_of, greatest}
 use Rattle.arena.specs.Words.{bumps, announcements}
 use Rattle.arena.specs.declared.place.Place.{Place}
-use Rattle.arena.specs.declared.place.Place.TheVariants.{Next, Announcement}
+use Rattle.arena.specs.declared.place.Place.TheVariants.{Announcement}
 use Rattle.stepper.specs.Preparation.{IsBegun}
 use Rattle.stepper.specs.declared.resume.After.{After}
 use Rattle.stepper.specs.declared.resume.After.TheVariants.{More, Done}

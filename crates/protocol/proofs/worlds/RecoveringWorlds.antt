@@ -5,7 +5,7 @@ use Rattle.std.proofs.lemmas.Bool.{cases_eq}
 use Rattle.std.proofs.lemmas.List.{length_push}
 use Rattle.std.proofs.lemmas.Option.{slice_get_within}
 use mathlib.Core.Path.{fun_ext}
-use Rattle.stepper.specs.Loading.{part_next, loaded_with, IsLoaded}
+use Rattle.stepper.specs.Loading.{loaded_with}
 use Rattle.stepper.specs.declared.loading.Loading.{Loading}
 use Rattle.stepper.specs.declared.loading.Loading.TheVariants.{Length as at_length, First as at_first}
 use Rattle.stepper.specs.declared.loading.Loading.TheVariants.{Second as at_second, Third as at_third}
@@ -39,7 +39,6 @@ use Rattle.recover.specs.Table.{recovery_at, recovery_after, point_at_the_end, p
 use Rattle.recover.specs.Table.{got_with, removed_with, to_answer, to_outcome, past_head, node_at, token_at, IsPoint}
 use Rattle.recover.specs.Table.{kept_place, IsKeeping}
 use Rattle.words.specs.declared.call.Reply.TheVariants.{Done, Got, Empty}
-use Rattle.words.specs.declared.told.Outcome.TheVariants.{Taken}
 use Rattle.stepper.specs.declared.resume.After.TheVariants.{More, Done as Ready}
 use Rattle.recover.specs.declared.recovery.Recovery.{Recovery}
 use Rattle.recover.specs.declared.point.RecoveryPoint.{RecoveryPoint}
@@ -93,7 +92,7 @@ use Rattle.protocol.proofs.recovery.Sound.{crash_sound, wake_base}
 use Rattle.protocol.specs.invariants.Recovery.{Same, SameBut, TakenTo, Position, Claim, Unclaimed, Announced, At}
 use Rattle.protocol.specs.invariants.Recovery.{AtKeeping, AtPoint, IsUntold, nothing_told}
 use Rattle.protocol.proofs.recovery.Recovering.{node_fits}
-use Rattle.protocol.proofs.recovery.RecoveryEnds.{answered_among, result_fits, Recovers, RecoversAt, RecoversOn, Woken}
+use Rattle.protocol.proofs.recovery.RecoveryEnds.{answered_among, result_fits, Recovers, RecoversOn, Woken}
 use Rattle.protocol.proofs.recovery.RecoveryEnds.{RecoversNext, but_stored, keep_at, hand_may, tells_kept, row_LoadNext}
 use Rattle.protocol.proofs.recovery.RecoveryEnds.{row_LoadMark, row_KeepStatus, row_KeepResult, row_KeepHead}
 use Rattle.protocol.proofs.recovery.RecoveryEnds.{row_KeepTail}

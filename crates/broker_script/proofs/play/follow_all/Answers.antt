@@ -26,7 +26,7 @@ loop-at-preserved c =
     record {
       leads = next_left c.args.player c.loop-at.player c.follow.new.player all m at statement c.loop-at.lines.items c.follow.new.lines.items
           c.in_ok-put_off.put_off leads within c.index-statements-made.is (λ e. by.followed (ap Ok e))
-          (λ e. by.put_off (ap Ok e)) (λ e. c.is_again-again.ensures (by.again (ap Ok e)));
+          (λ e. (by.put_off (ap Ok e), by.line (ap Ok e))) (λ e. c.is_again-again.ensures (by.again (ap Ok e)));
       before = let low = placed.1 in omega (arith, low);
       again = λ e. slice_get_within all (at + 1) (whole Again) (c.is_again-again.ensures (by.again (ap Ok e)));
     }

@@ -8,4 +8,4 @@ pub returns-clause-cached : goal.returns-clause-cached
 returns-clause-cached c ws directory h = cached_directory ws directory h
 
 pub returns-clause-evicted : goal.returns-clause-evicted
-returns-clause-evicted c ws directory h word = rest_evicted ws word directory h
+returns-clause-evicted c directory ws word h = rest_evicted ws word directory h

@@ -15,8 +15,8 @@ loop-slot-preserved-in_default g c =
       directory = c.loop-slot.invariant.directory;
     }
 
-pub returns-then-has : goal.returns-then-has
-returns-then-has g c =
+pub returns-then-has-clause-none : goal.returns-then-has-clause-none
+returns-then-has-clause-none g c =
     twice (g.W.KeptWords.kept_words c.args.words.now) c.loop-slot.directory c.loop-slot.slot c.in-Some.queue c.loop-slot-test.true
     c.loop-slot.invariant.found (sym c.slot_in.ensures ∙ c.in-Some.is) (c.has.ensures.0 c.if-has.true)
 
@@ -34,8 +34,6 @@ loop-slot-preserved g c =
       directory = c.open.ensures.directory;
     }
 
-pub returns : goal.returns
-returns g c = (
-  all_found (g.W.KeptWords.kept_words c.args.words.now) c.loop-slot.directory c.loop-slot.slot c.loop-slot-test.false c.loop-slot.invariant.found,
-  c.loop-slot.invariant.directory,
-)
+pub returns-clause-read : goal.returns-clause-read
+returns-clause-read g c =
+    all_found (g.W.KeptWords.kept_words c.args.words.now) c.loop-slot.directory c.loop-slot.slot c.loop-slot-test.false c.loop-slot.invariant.found

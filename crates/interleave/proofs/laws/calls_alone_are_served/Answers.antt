@@ -7,4 +7,4 @@ returns-clause-answered c = answers_soon
 
 pub returns-clause-served : goal.returns-clause-served
 returns-clause-served c =
-    λ w client call steps reply holds turn answered. served_alone w client holds steps reply answered call turn
+    λ w client steps reply holds answered call turn. served_alone w client holds steps reply answered call turn

@@ -5,4 +5,4 @@ pub returns-clause-acts : goal.returns-clause-acts
 returns-clause-acts c = grown_by_attempt
 
 pub returns-clause-lists : goal.returns-clause-lists
-returns-clause-lists c = λ room taken old new acts went. grown_by_acts went
+returns-clause-lists c = λ run. grown_by_acts run.went

@@ -5,4 +5,4 @@ pub returns-clause-by_words : goal.returns-clause-by_words
 returns-clause-by_words c = next_tells
 
 pub returns-clause-same : goal.returns-clause-same
-returns-clause-same c = same_told
+returns-clause-same c = λ w v tells telling holds other same. same_told w v tells telling holds other same.shape same.kept

@@ -8,7 +8,7 @@ pub returns-clause-evicted : goal.returns-clause-evicted
 returns-clause-evicted c = evicted_noted
 
 pub returns-clause-within : goal.returns-clause-within
-returns-clause-within c = part_noted
+returns-clause-within c = λ from len old new same within change. part_noted from len change old new same within
 
 pub returns-clause-more : goal.returns-clause-more
 returns-clause-more c = more_noted

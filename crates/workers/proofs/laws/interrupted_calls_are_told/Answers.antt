@@ -2,9 +2,9 @@ use Rattle.workers.proofs.lists.Tellings.{answered_taken, interrupted_told}
 use Rattle.workers.proofs.laws.interrupted_calls_are_told.Goals as goal
 
 pub returns-clause-interrupted : goal.returns-clause-interrupted
-returns-clause-interrupted c = λ since s client list slot place w keeps recorded here log has is.
-    interrupted_told since s client list slot place w keeps recorded here has log is
+returns-clause-interrupted c = λ since s client list keeps recorded w place call log.
+    interrupted_told since s client list call.slot place w keeps recorded call.here call.has log call.ended
 
 pub returns-clause-answered : goal.returns-clause-answered
-returns-clause-answered c = λ since s client list slot place w reply keeps recorded here has is.
-    answered_taken since s client list slot place w keeps recorded here has reply is
+returns-clause-answered c = λ since s client list keeps recorded w place reply call.
+    answered_taken since s client list call.slot place w keeps recorded call.here call.has reply call.ended

@@ -1,4 +1,4 @@
-use Rattle.std.proofs.Common.{◌≡◌, ℕ, refl, List, [], Option, None, Some, replicate, sym, subst, ap, ◌∙◌}
+use Rattle.std.proofs.Common.{◌≡◌, ℕ, List, [], Option, None, Some, replicate, sym, subst, ap, ◌∙◌}
 use Rattle.words.specs.declared.call.Kind.{Kind}
 use Rattle.words.specs.declared.told.Told.{Told}
 use Rattle.persist.specs.Memory.{Words, words_after_crash}

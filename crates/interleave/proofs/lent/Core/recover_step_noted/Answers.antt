@@ -1,17 +1,17 @@
 use Rattle.std.proofs.Common.{◌≡◌, ◌≤◌, ◌+◌, arith, refl, false, Bool, List, Option, Some, Result, Ok, subst, sym, ap, ◌∙◌}
 use Rattle.std.specs.Prelude.{IfSome}
 use Rattle.words.specs.declared.refusal.Refusal.{Refusal}
-use Rattle.persist.specs.Memory.{Lent, Words}
+use Rattle.persist.specs.Memory.{Words}
 use Rattle.arena.specs.Shape.{Shape}
 use Rattle.protocol.specs.declared.UnderWay.{UnderWay}
-use Rattle.stepper.specs.Step.{after_one, lent_after_one, value_found}
-use Rattle.recover.specs.Table.{access_of as recovery_access, recovery_after}
+use Rattle.stepper.specs.Step.{after_one}
+use Rattle.recover.specs.Table.{access_of as recovery_access}
 use Rattle.recover.specs.declared.recovery.Recovery.{Recovery}
 use Rattle.protocol.specs.Machine.{next_recovery, recovery_left, recovery_events}
 use Rattle.protocol.proofs.Facts.{recovery_point}
 use Rattle.interleave.specs.Core.{CoreState, core_with_room, state_of}
 use Rattle.interleave.specs.Holds.{Holds, from_invariant}
-use Rattle.interleave.specs.Recoveries.{MayRecover}
+use Rattle.interleave.specs.Recoveries.{IsRecoveryStep, MayRecover}
 use Rattle.interleave.specs.State.{State, machine, is_ready, queue_at_ready, recover_with, recover_result_with}
 use Rattle.interleave.specs.Trace.{state_with}
 use Rattle.interleave.specs.declared.queue.Queue.{Queue}
@@ -35,16 +35,6 @@ recover_once-requires-clause-may g c =
     subst (λ (k : CoreState). IfSome k.trace.recovery (λ r. MayRecover k.shape w.words r)) (sym c.reserve.ensures.same)
     (of_some w.recovery (λ r. MayRecover w.shape w.words r) may)
 
--- what recovery's step says of a core that was given room, said of the core before
-abbrev IsRecoveredFrom : CoreState → Words → CoreState → Words → Bool → Lent → Lent → Type 0
-IsRecoveredFrom k ws new left ready lent lent_new = (r : Recovery) → k.trace.recovery ≡ Some r →
-    let access = recovery_access k.shape.kind r.at in
-    let next = recovery_after k.shape r (value_found k.shape access ws) in
-    (left ≡ after_one k.shape access ws) × (new.trace.recovery ≡ recovery_left next)
-    × (new.trace.log.events ≡ recovery_events k.trace.log.events next)
-    × (new.queue ≡ queue_at_ready k.queue next) × (ready ≡ is_ready next)
-    × (lent_new ≡ lent_after_one k.shape access lent)
-
 pub returns-clause-by_rule : goal.returns-clause-by_rule
 returns-clause-by_rule g c =
     let old : CoreState = c.args.self.now in
@@ -56,7 +46,7 @@ returns-clause-by_rule g c =
     let some = recovery_some w.recovery (sym c.is_down.ensures ∙ c.if-not-is_down.false) in
     let r : Recovery = some.0 in
     let e : w.recovery ≡ Some r = some.1 in
-    let steps : IsRecoveredFrom old ws new left c.recover_once.result.answer (g.M.WordMemory.lent c.args.memory.now) (g.M.WordMemory.lent c.recover_once.new.memory) = subst (λ (k : CoreState). IsRecoveredFrom k ws new left c.recover_once.result.answer (g.M.WordMemory.lent c.args.memory.now) (g.M.WordMemory.lent c.recover_once.new.memory)) same c.recover_once.ensures.step in
+    let steps : IsRecoveryStep (core_with_room old c.reserve.new.self.trace.room) ws new left c.recover_once.result = subst (λ (k : CoreState). IsRecoveryStep k ws new left c.recover_once.result) same c.recover_once.ensures.step in
     let step = steps r e in
     let is = recovery_next w r c.requires.holds e in
     let ms : Words = after_one w.shape (recovery_access w.shape.kind r.at) ws in
@@ -65,15 +55,15 @@ returns-clause-by_rule g c =
       leaves =
           ap (λ (s : Shape). state_with s left new.queue new.calls new.trace) (c.recover_once.ensures.shape ∙ ap (λ (k : CoreState). k.shape) same)
           ∙ ap (λ (cs : List (Option UnderWay)). state_with w.shape left new.queue cs new.trace) (c.recover_once.ensures.calls ∙ ap (λ (k : CoreState). k.calls) same)
-          ∙ ap (λ (m : Words). state_with w.shape m new.queue old.calls new.trace) step.0
-          ∙ ap (λ (q : Queue). state_with w.shape ms q old.calls new.trace) (step.3 ∙ ap (queue_at_ready old.queue) is)
+          ∙ ap (λ (m : Words). state_with w.shape m new.queue old.calls new.trace) step.words
+          ∙ ap (λ (q : Queue). state_with w.shape ms q old.calls new.trace) (step.queue ∙ ap (queue_at_ready old.queue) is)
           ∙ left_by_recovery w.shape ws old.queue old.calls old.trace r (next_recovery (machine w) r) new.trace refl
           (c.recover_once.ensures.base ∙ ap (λ (k : CoreState). k.trace.base) same) (c.recover_once.ensures.told ∙ ap (λ (k : CoreState). k.trace.told) same)
-          (step.2 ∙ ap (recovery_events old.trace.log.events) is)
+          (step.events ∙ ap (recovery_events old.trace.log.events) is)
           (c.recover_once.ensures.issued ∙ ap (λ (k : CoreState). k.trace.log.issued) same) (c.recover_once.ensures.effects ∙ ap (λ (k : CoreState). k.trace.log.effects) same)
-          (step.1 ∙ ap recovery_left is)
+          (step.recovery ∙ ap recovery_left is)
           ∙ ap (recover_with false w) (sym e);
-      answers = ap (λ (b : Bool). let x : Result Bool Refusal = Ok b in x) (step.4 ∙ ap is_ready is) ∙ ap (recover_result_with false w) (sym e);
+      answers = ap (λ (b : Bool). let x : Result Bool Refusal = Ok b in x) (step.answer ∙ ap is_ready is) ∙ ap (recover_result_with false w) (sym e);
       full = λ full. absurd (cc (full));
       room = room;
       spare = tt;
@@ -88,4 +78,5 @@ pub returns-clause-noted : goal.returns-clause-noted
 returns-clause-noted g c =
     let some = recovery_some c.args.self.now.trace.recovery (sym c.is_down.ensures ∙ c.if-not-is_down.false) in
     let still : c.reserve.new.self.trace.recovery ≡ Some some.0 = ap (λ (k : CoreState). k.trace.recovery) c.reserve.ensures.same ∙ some.1 in
-    act_noted _ _ (g.M.WordMemory.words c.args.memory.now) _ _ c.requires.holds.safe.words.same (c.recover_once.ensures.step some.0 still).0 (c.recover_once.ensures.change some.0 still)
+    let step = c.recover_once.ensures.step some.0 still in
+    act_noted _ _ (g.M.WordMemory.words c.args.memory.now) _ _ c.requires.holds.safe.words.same step.words step.change

@@ -1,7 +1,7 @@
 use Rattle.std.proofs.Common.{Ok, Option, Result, ap, refl, false, length, ◌≤◌, ◌+◌, subst, ◌≡◌, None, Some, is_some, slice_get, slice_index_or, sym, ◌∙◌, arith}
 use Rattle.std.specs.Prelude.{IsSome}
 use Rattle.persist.specs.Memory.{Words}
-use Rattle.stepper.specs.Step.{after_one, change_by, lent_after_one}
+use Rattle.stepper.specs.Step.{lent_after_one}
 use Rattle.words.specs.declared.call.Reply.{Reply}
 use Rattle.words.specs.declared.refusal.Refusal.{Refusal}
 use Rattle.helping.specs.Table.{access_of}
@@ -15,6 +15,7 @@ use Rattle.interleave.specs.Effects.{AreInSequence}
 use Rattle.interleave.specs.Holds.{Holds, from_invariant}
 use Rattle.interleave.specs.Queue.{after_return}
 use Rattle.interleave.specs.State.{after_step, machine, queue_left, step_result_with, step_with}
+use Rattle.interleave.specs.Stepped.{IsSteppedBy}
 use Rattle.interleave.specs.Trace.{state_with}
 use Rattle.interleave.specs.declared.queue.Queue.{Queue}
 use Rattle.interleave.proofs.machine.Calls.{call_there, of_call, the_call}
@@ -73,9 +74,8 @@ returns-then-is_none-clause-noted g c =
     let there : slice_index_or now.calls c.args.client.0 None ≡ Some u =
     ap (λ (k : CoreState). slice_index_or k.calls c.args.client.0 None) c.reserve.ensures.same ∙ call_there old.calls c.args.client.0 u waits in
     let left : Words = g.M.WordMemory.words c.advance-noted.new.memory in
-    let words = the_call now.calls c.args.client u (λ call. left ≡ after_one now.shape (access_of now.shape.kind call.op) ws) there c.advance-noted.ensures.words in
-    let change = the_call now.calls c.args.client u (λ call. c.advance-noted.result.change ≡ change_by now.shape (access_of now.shape.kind call.op) ws) there c.advance-noted.ensures.change in
-    act_noted now.shape (access_of now.shape.kind u.op) ws left c.advance-noted.result.change c.requires.holds.safe.words.same words change
+    let step = the_call now.calls c.args.client u (λ call. IsSteppedBy call c.args.client now ws c.advance-noted.new.self left c.advance-noted.result) there c.advance-noted.ensures.step in
+    act_noted now.shape (access_of now.shape.kind u.op) ws left c.advance-noted.result.change c.requires.holds.safe.words.same step.words step.change
 
 pub returns-then-is_none-clause-lent : goal.returns-then-is_none-clause-lent
 returns-then-is_none-clause-lent g c =
@@ -102,10 +102,10 @@ returns-then-is_none-clause-holds g c =
     ap (λ (k : CoreState). slice_index_or k.calls c.args.client.0 None) c.reserve.ensures.same ∙ call_there old.calls c.args.client.0 u waits in
     let left : Words = g.M.WordMemory.words c.advance-noted.new.memory in
     let new : CoreState = c.advance-noted.new.self in
-    let answer : c.advance-noted.result.answer ≡ answer_of (next_of (machine_over now ws) u) =
-    the_call now.calls c.args.client u (λ call. c.advance-noted.result.answer ≡ answer_of (next_of (machine_over now ws) call)) there c.advance-noted.ensures.answer in
-    let rest = stepped_rest now new ws left c.args.client u there c.advance-noted.ensures.shape c.advance-noted.ensures.words c.advance-noted.ensures.calls
-    c.advance-noted.ensures.base c.advance-noted.ensures.told c.advance-noted.ensures.log c.advance-noted.ensures.recovery in
+    let made = the_call now.calls c.args.client u (λ call. IsSteppedBy call c.args.client now ws new left c.advance-noted.result) there c.advance-noted.ensures.step in
+    let answer : c.advance-noted.result.answer ≡ answer_of (next_of (machine_over now ws) u) = made.answer in
+    let rest = stepped_rest now new ws left c.args.client u c.advance-noted.result made c.advance-noted.ensures.shape
+    c.advance-noted.ensures.base c.advance-noted.ensures.told c.advance-noted.ensures.recovery in
     let step = ap (λ (k : CoreState). step_with false (state_of k ws) c.args.client (Ok u)) c.reserve.ensures.same ∙ ap (step_with false (state_of old ws) c.args.client) (sym c.in_ok-begun.ensures.ok) in
     let queue : new.queue ≡ queue_left now.queue u (next_of (machine_over now ws) u) =
     c.advance-noted.ensures.queue ∙ sym (queue_still now.queue u (next_of (machine_over now ws) u) (ap is_some (sym answer) ∙ c.if-is_none.ensures)) in
@@ -123,9 +123,8 @@ returns-clause-noted g c =
     let there : slice_index_or now.calls c.args.client.0 None ≡ Some u =
     ap (λ (k : CoreState). slice_index_or k.calls c.args.client.0 None) c.reserve.ensures.same ∙ call_there old.calls c.args.client.0 u waits in
     let left : Words = g.M.WordMemory.words c.advance-noted.new.memory in
-    let words = the_call now.calls c.args.client u (λ call. left ≡ after_one now.shape (access_of now.shape.kind call.op) ws) there c.advance-noted.ensures.words in
-    let change = the_call now.calls c.args.client u (λ call. c.advance-noted.result.change ≡ change_by now.shape (access_of now.shape.kind call.op) ws) there c.advance-noted.ensures.change in
-    act_noted now.shape (access_of now.shape.kind u.op) ws left c.advance-noted.result.change c.requires.holds.safe.words.same words change
+    let step = the_call now.calls c.args.client u (λ call. IsSteppedBy call c.args.client now ws c.advance-noted.new.self left c.advance-noted.result) there c.advance-noted.ensures.step in
+    act_noted now.shape (access_of now.shape.kind u.op) ws left c.advance-noted.result.change c.requires.holds.safe.words.same step.words step.change
 
 pub returns-clause-lent : goal.returns-clause-lent
 returns-clause-lent g c =
@@ -152,10 +151,10 @@ returns-clause-by_rule g c =
     ap (λ (k : CoreState). slice_index_or k.calls c.args.client.0 None) c.reserve.ensures.same ∙ call_there old.calls c.args.client.0 u waits in
     let left : Words = g.M.WordMemory.words c.advance-noted.new.memory in
     let new : CoreState = c.advance-noted.new.self in
-    let answer : c.advance-noted.result.answer ≡ answer_of (next_of (machine_over now ws) u) =
-    the_call now.calls c.args.client u (λ call. c.advance-noted.result.answer ≡ answer_of (next_of (machine_over now ws) call)) there c.advance-noted.ensures.answer in
-    let rest = stepped_rest now new ws left c.args.client u there c.advance-noted.ensures.shape c.advance-noted.ensures.words c.advance-noted.ensures.calls
-    c.advance-noted.ensures.base c.advance-noted.ensures.told c.advance-noted.ensures.log c.advance-noted.ensures.recovery in
+    let made = the_call now.calls c.args.client u (λ call. IsSteppedBy call c.args.client now ws new left c.advance-noted.result) there c.advance-noted.ensures.step in
+    let answer : c.advance-noted.result.answer ≡ answer_of (next_of (machine_over now ws) u) = made.answer in
+    let rest = stepped_rest now new ws left c.args.client u c.advance-noted.result made c.advance-noted.ensures.shape
+    c.advance-noted.ensures.base c.advance-noted.ensures.told c.advance-noted.ensures.recovery in
     let step = ap (λ (k : CoreState). step_with false (state_of k ws) c.args.client (Ok u)) c.reserve.ensures.same ∙ ap (step_with false (state_of old ws) c.args.client) (sym c.in_ok-begun.ensures.ok) in
     let queue : c.returned.new.self ≡ queue_left now.queue u (next_of (machine_over now ws) u) =
     c.returned.ensures ∙ ap (λ (q : Queue). after_return q u.begun.client u.begun.number) (ap (λ (k : CoreState). k.queue) c.self.view_is ∙ c.advance-noted.ensures.queue)

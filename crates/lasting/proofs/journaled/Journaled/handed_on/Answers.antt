@@ -14,7 +14,9 @@ invariant_of-result g c =
       assured = c.self.inside.handed.assured;
     } in
     let none : old.pending ≡ [] = ap (λ (k : Kept). k.pending) c.self.view_is ∙ c.requires in
-    let e = c.hand_on-handed.ensures in
-    let is = c.in-Ok.is in
-    kept_more g.J.Naming.first old c.hand_on-handed.result.0.last c.hand_on-handed.result.0.changes c.in-Ok.batch.items
-    c.hand_on-handed.result.0.assured c.self.invariant none (rw is at e.row) (rw is at e.moment) (rw is at e.later) e.assured
+    let e = c.hand_on_to-handed.ensures in
+    let is = c.in-Ok-Some.is in
+    let some = c.in-Ok-Some.field-0-is in
+    kept_more g.J.Naming.first old c.hand_on_to-handed.result.0.last c.hand_on_to-handed.result.0.changes c.in-Ok-Some.batch.items
+    c.hand_on_to-handed.result.0.assured c.self.invariant none (rw some at (rw is at e.row)) (rw some at (rw is at e.moment))
+    (rw is at e.later) e.assured

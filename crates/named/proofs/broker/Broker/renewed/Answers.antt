@@ -58,31 +58,31 @@ returns-in_err-words-clause-errors c =
     subst (λ r. IfErr r (IsWhyUnrenewed old to)) (sym answer) why
 
 pub returns-in_err-words-clause-no_room : goal.returns-in_err-words-clause-no_room
-returns-in_err-words-clause-no_room c = λ may over.
+returns-in_err-words-clause-no_room c = λ unfit.
     let old : List ℕ = c.args.self.words.kept in
     let to : Counts = record { clients = c.args.clients; records = c.args.records } in
     let kept : c.crash.new.self.words.kept ≡ old =
     ap (λ (ws : Words). ws.kept) c.crash.ensures.words ∙ ap (λ (x : Brokered). x.words.kept) c.self.view_is in
-    let refused = c.renewed_broker.ensures.no_room.1 (unfit_as old c.crash.new.self.words.kept to c.in_ok-to.to kept c.in_ok-to.ensures.made over) in
+    let refused = c.renewed_broker.ensures.no_room.1 (unfit_as old c.crash.new.self.words.kept to c.in_ok-to.to kept c.in_ok-to.ensures.made unfit.1) in
     let answer : c.from_residual-in_err-words.result ≡ Err c.in_err-words.field-0.0 = search rules in
     cc (answer, refused, c.in_err-words.was)
 
 pub returns-in_default-of-clause-no_room : goal.returns-in_default-of-clause-no_room
-returns-in_default-of-clause-no_room c = λ may over.
+returns-in_default-of-clause-no_room c = λ unfit.
     let old : List ℕ = c.args.self.words.kept in
     let to : Counts = record { clients = c.args.clients; records = c.args.records } in
     let kept : c.crash.new.self.words.kept ≡ old =
     ap (λ (ws : Words). ws.kept) c.crash.ensures.words ∙ ap (λ (x : Brokered). x.words.kept) c.self.view_is in
-    let refused = c.renewed_broker.ensures.no_room.1 (unfit_as old c.crash.new.self.words.kept to c.in_ok-to.to kept c.in_ok-to.ensures.made over) in
+    let refused = c.renewed_broker.ensures.no_room.1 (unfit_as old c.crash.new.self.words.kept to c.in_ok-to.to kept c.in_ok-to.ensures.made unfit.1) in
     absurd (not_both c.renewed_broker.result c.in_ok-words.words NoRoom c.in_ok-words.was refused)
 
 pub returns-clause-no_room : goal.returns-clause-no_room
-returns-clause-no_room c = λ may over.
+returns-clause-no_room c = λ unfit.
     let old : List ℕ = c.args.self.words.kept in
     let to : Counts = record { clients = c.args.clients; records = c.args.records } in
     let kept : c.crash.new.self.words.kept ≡ old =
     ap (λ (ws : Words). ws.kept) c.crash.ensures.words ∙ ap (λ (x : Brokered). x.words.kept) c.self.view_is in
-    let refused = c.renewed_broker.ensures.no_room.1 (unfit_as old c.crash.new.self.words.kept to c.in_ok-to.to kept c.in_ok-to.ensures.made over) in
+    let refused = c.renewed_broker.ensures.no_room.1 (unfit_as old c.crash.new.self.words.kept to c.in_ok-to.to kept c.in_ok-to.ensures.made unfit.1) in
     absurd (not_both c.renewed_broker.result c.in_ok-words.words NoRoom c.in_ok-words.was refused)
 
 pub returns-clause-renewed : goal.returns-clause-renewed
