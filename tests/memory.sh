@@ -1,18 +1,17 @@
 #!/usr/bin/env bash
-# What no clause says of refused memory: each allocation of crates/test_refusals and crates/test_shared_refusals is
-# refused in turn, and the program ends as where none is, but for the lines that say what was refused. These name every
-# call that can be refused memory and that no script makes, and each is made again. The parts of a story are told one at
-# a time, so that a refusal costs that part alone. Then pqx and pqd are run so: each does what it would, or says that
+# What no clause says of refused memory: each allocation of crates/test_refusals is refused in turn, and the program ends
+# as where none is, but for the lines that say what was refused. These name the calls of sessions, shared sessions and
+# desks that can be refused memory and that no script makes, and each is made again. The parts of a story are told one
+# at a time, so that a refusal costs that part alone. Then pqx and pqd are run so: each does what it would, or says that
 # there is no memory. Scripts with a line `again` behind each line make what was refused once more. It takes the programs
-# that the last `rt ci`, or `rt run` in their folders, left, or those that REFUSALS, SHARED_REFUSALS, PQX and PQD name.
+# that the last `rt ci`, or `rt run` in their folders, left, or those that REFUSALS, PQX and PQD name.
 set -eu
 cd "$(dirname "$0")/.."
 . tests/cases.sh
 refusals=${REFUSALS:-$PWD/crates/test_refusals/out/test_refusals}
-shared_refusals=${SHARED_REFUSALS:-$PWD/crates/test_shared_refusals/out/test_shared_refusals}
 pqx=${PQX:-$PWD/crates/pqx/out/pqx}
 pqd=${PQD:-$PWD/crates/pqd/out/pqd}
-need "$refusals" "$shared_refusals" "$pqx" "$pqd"
+need "$refusals" "$pqx" "$pqd"
 "$(dirname "$(rt doc)")/toolchain/bin/clang" --target=x86_64-unknown-linux-gnu -shared -fPIC -nostdlib -fuse-ld=lld \
     -o "$work/refusing.so" tests/refusing.c
 
@@ -71,8 +70,7 @@ tell_all() {
 }
 
 growths=0
-program=$refusals tell_all crates/test_refusals memories histories worlds
-program=$shared_refusals tell_all crates/test_shared_refusals sessions shareds desks
+program=$refusals tell_all crates/test_refusals sessions shareds desks
 printf 'growths refused: %d\n' "$growths"
 
 # Each call that can be refused was seen to be, and no other one.

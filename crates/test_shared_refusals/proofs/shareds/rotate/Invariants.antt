@@ -1,6 +1,0 @@
-use Rattle.std.proofs.Common.{◌≡◌}
-use Rattle.test_shared_refusals.proofs.shareds.rotate.Given as goal
-
--- it is the same client's seat
-abbrev pub invariant-loop : goal.invariant-loop
-invariant-loop g l = l.seat.client ≡ l.initial.seat.client
