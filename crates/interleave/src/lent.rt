@@ -4,6 +4,7 @@ ghost use Rattle.std.specs.Prelude.{◌≡◌, ◌≤◌, ◌<◌, length, is_so
 ghost use Rattle.persist.specs.Memory.{Words};
 ghost use Rattle.sound_words.specs.Sound.{AreSoundWords};
 ghost use Rattle.recover.specs.Table.{boot_recovery};
+ghost use Rattle.protocol.specs.Rotated.{empty_trace};
 ghost use Rattle.interleave.specs.Booted.{booted_world, HoldsOn, IsBootedOn, MayRefuse};
 ghost use Rattle.interleave.specs.Content.{content_by};
 ghost use Rattle.interleave.specs.Core.{core_with_room, state_of};
@@ -150,6 +151,18 @@ impl Core {
             Ok(()) => Ok(()),
             Err(_) => Err(Refusal::NoMemory),
         }
+    }
+
+    /// The history, of which nothing happened yet, takes the room that another one grew by, where that is room for so
+    /// many acts; else it keeps its own. So what begins in another's place takes the memory that was there: a server's
+    /// threads have allocators of their own, and each would come to hold the memory of as many events.
+    pub fn take_room(&mut self, other: Core, acts: usize)
+        requires fresh { self.old.trace.log ≡ empty_trace }
+        requires room { acts ≤ self.old.trace.room }
+        ensures same { self.new ≡ core_with_room self.old self.new.trace.room }
+        ensures room { acts ≤ self.new.trace.room }
+    {
+        self.trace.take_room(other.trace, acts);
     }
 
     /// What the queue holds by the kept words, which are lent: the values of the nodes that kept links reach from the

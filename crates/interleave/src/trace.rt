@@ -263,6 +263,34 @@ impl Trace {
         self.effects.clear();
     }
 
+    /// What another history grew by, emptied, becomes this one's, where it has room for so many events.
+    pub(crate) fn take_room(&mut self, other: Trace, acts: usize)
+        requires fresh { self.old.log ≡ empty_trace }
+        requires room { acts ≤ self.old.room }
+        ensures base { self.new.base ≡ self.old.base }
+        ensures told { self.new.told ≡ self.old.told }
+        ensures log { self.new.log ≡ self.old.log }
+        ensures recovery { self.new.recovery ≡ self.old.recovery }
+        ensures room { acts ≤ self.new.room }
+    {
+        let Trace {
+            history,
+            mut issued,
+            mut effects,
+            ..
+        } = other;
+        let mut events = history.events;
+        events.clear();
+        issued.clear();
+        effects.clear();
+        let has_room = issued.capacity() >= acts && effects.capacity() >= acts;
+        if has_room && events.reserve(acts).is_ok() {
+            self.history.events = events;
+            self.issued = issued;
+            self.effects = effects;
+        }
+    }
+
     /// The call at the place takes effect, with this reply.
     pub(crate) fn take(&mut self, place: usize, reply: Reply)
         requires { length self.old.log.effects < length self.old.log.events }
