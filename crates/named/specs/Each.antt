@@ -21,6 +21,12 @@ pub record HasMoreRoom (was is : Slot) : Type 0 where
   pub same : IsSameSlot was is
   pub as_ready : IsAsReady was is
 
+-- but for that room, which may be another, a slot is as it was
+pub record HasOtherRoom (was is : Slot) : Type 0 where
+  pub world : (ws : Words) → world_in ws is ≡ world_in ws was
+  pub same : IsSameSlot was is
+  pub as_ready : IsAsReady was is
+
 -- its queue stopped, over the words that a crash leaves
 pub record HasStopped (was is : Slot) : Type 0 where
   pub world : (ws : Words) → world_in (words_after_crash ws) is ≡ acted after_stop (world_in ws was)

@@ -7,6 +7,7 @@ use Rattle.words.specs.declared.call.Kind.{Kind}
 use Rattle.words.specs.declared.refusal.Refusal.{Refusal}
 use Rattle.words.specs.declared.refusal.Refusal.TheVariants.{NoMemory, NoQueue}
 use Rattle.persist.specs.Memory.{MemoryState, Words, IsSameOutside, words_after_eviction}
+use Rattle.protocol.specs.Rotated.{empty_trace}
 use Rattle.interleave.specs.Calls.{is_no_memory}
 use Rattle.interleave.specs.Rules.{Rule, waiting_in}
 use Rattle.interleave.specs.State.{State, after_alone, after_evict, IsAnsweredAlone}
@@ -33,6 +34,11 @@ room_in (Open block) = block.core.trace.room
 abbrev pub AreEffectsFew : Slot → Type 0
 AreEffectsFew Closed = Unit {0}
 AreEffectsFew (Open block) = length block.core.trace.log.effects ≤ length block.core.trace.log.events
+
+-- nothing happened yet in the history of the slot's queue
+abbrev pub HasEmptyHistory : Slot → Type 0
+HasEmptyHistory Closed = Unit {0}
+HasEmptyHistory (Open block) = block.core.trace.log ≡ empty_trace
 
 -- an act makes this of the world, where there is one
 abbrev pub acted : (State → State) → Option State → Option State

@@ -8,6 +8,7 @@ ghost use Rattle.persist.specs.declared.memory.TheConstants.{PORTS};
 ghost use Rattle.persist.specs.Memory.{Words, words_in, words_after_crash, words_after_eviction};
 ghost use Rattle.sound_words.specs.Sound.{AreSoundWords};
 ghost use Rattle.recover.specs.Table.{boot_recovery};
+ghost use Rattle.protocol.specs.Rotated.{empty_trace};
 ghost use Rattle.interleave.specs.Booted.{booted_world};
 ghost use Rattle.interleave.specs.Queue.{told_in, told_to};
 ghost use Rattle.interleave.specs.Rotation.{after_rotation, rotate_result, some_client_calls};
@@ -256,6 +257,18 @@ impl Block {
         ensures place { LieInOnePlace self.old self.new }
     {
         self.core.reserve(acts)
+    }
+
+    /// Its history, of which nothing happened yet, takes the room of another queue's, where that is enough.
+    pub(crate) fn take_room(&mut self, other: Block, acts: usize)
+        requires empty { self.old.core.trace.log ≡ empty_trace }
+        requires room { acts ≤ self.old.core.trace.room }
+        ensures world { (ws : Words) → state_in ws self.new ≡ state_in ws self.old }
+        ensures room { acts ≤ self.new.core.trace.room }
+        ensures recovery { self.new.core.trace.recovery ≡ self.old.core.trace.recovery }
+        ensures place { LieInOnePlace self.old self.new }
+    {
+        self.core.take_room(other.core, acts);
     }
 
     /// The environment keeps a word of the block, by its number in the whole memory.

@@ -8,12 +8,13 @@ ghost use Rattle.notes.specs.Noting.{HasNoted};
 use crate::broker::Broker;
 use crate::recovery::BrokerRecovery;
 use crate::slot::Slot;
-use crate::slots::{boot_each, have_calls, reserve_each};
+use crate::slots::{boot_each, have_calls, reserve_each, take_rooms};
 use arena::{BrokerLayout, SlotId};
 use directory::{DirectoryRecovery, KeptBroker, sound as sound_directory};
 use notes::Notes;
 use persist::Memory;
 use renewal::{FreshBlock, fresh_queue, renewed_broker};
+use std::mem::replace;
 use words::Refusal;
 
 /// What a renewal puts in place of what is there: slots whose queues begin anew, each history with room for an act, and
@@ -86,7 +87,8 @@ impl Broker {
         Ok(Anew { slots, block })
     }
 
-    /// Begins anew on this. Nothing is refused any more.
+    /// Begins anew on this. Nothing is refused any more. The histories that begin take the room of those that end, so that
+    /// renewals take no more memory from one to the next, whichever thread makes them.
     fn begin_anew(&mut self, slot: SlotId, anew: Anew)
         requires may { MayRenew self.old slot.0 }
         requires anew { IsAnewFor self.old slot.0 anew.slots.items anew.block }
@@ -96,7 +98,8 @@ impl Broker {
     {
         let Anew { slots, block } = anew;
         self.memory.rewrite(self.layout.block(slot), &block);
-        self.slots = slots;
+        let ended = replace(&mut self.slots, slots);
+        take_rooms(&mut self.slots, ended, 1);
         self.recovery = Some(BrokerRecovery::ReadDirectory {
             at: DirectoryRecovery::boot(),
         });

@@ -14,11 +14,11 @@ ghost use Rattle.interleave.specs.State.{after_stop, after_recover, recover_resu
 ghost use Rattle.named.specs.Blocks.{IsSameWords};
 ghost use Rattle.named.specs.Booting.{block_booted};
 ghost use Rattle.named.specs.Brokers.{IsSlotAt, IsSlotWhereUnused, block_words, block_world};
-ghost use Rattle.named.specs.Each.{HasMoreRoom};
+ghost use Rattle.named.specs.Each.{HasMoreRoom, HasOtherRoom};
 ghost use Rattle.named.specs.Rotating.{has_calls_in, IsBaseIn, IsBegunAnew, IsQuietIn};
 ghost use Rattle.named.specs.Stopping.{recovering_world};
 ghost use Rattle.named.specs.declared.slot.Slot.TheVariants.{Closed, Open};
-ghost use Rattle.named.specs.Slots.{acted, answered, kind_in, room_in, world_evicted_in, world_in, AreEffectsFew, AskAlikeBesideSlot, HasRoomFor, IsAsReady, IsEvictedOutside, IsReadyIn, IsActInSlot, IsAloneInSlot, IsSameOutsideSlot, IsSameSlot, IsSlotAsked, IsSlotWell, IsWhyUnread, IsWithinSlot, IsWordOf};
+ghost use Rattle.named.specs.Slots.{acted, answered, kind_in, room_in, world_evicted_in, world_in, AreEffectsFew, AskAlikeBesideSlot, HasEmptyHistory, HasRoomFor, IsAsReady, IsEvictedOutside, IsReadyIn, IsActInSlot, IsAloneInSlot, IsSameOutsideSlot, IsSameSlot, IsSlotAsked, IsSlotWell, IsWhyUnread, IsWithinSlot, IsWordOf};
 
 use crate::block::Block;
 use arena::{BrokerLayout, SLOTS, SlotId};
@@ -288,6 +288,23 @@ impl Slot {
         match self {
             Slot::Closed => Ok(()),
             Slot::Open(block) => block.reserve(acts),
+        }
+    }
+
+    /// The history of its queue, if it has one, of which nothing happened yet, takes the room of that of another slot's
+    /// queue, where there is one and its room is enough.
+    pub(crate) fn take_room(&mut self, other: Option<Slot>, acts: usize)
+        requires empty { HasEmptyHistory self.old }
+        requires room { HasRoomFor acts self.old }
+        ensures same { HasOtherRoom self.old self.new }
+        ensures room { HasRoomFor acts self.new }
+    {
+        let Some(Slot::Open(other)) = other else {
+            return;
+        };
+        match self {
+            Slot::Closed => {}
+            Slot::Open(block) => block.take_room(other, acts),
         }
     }
 

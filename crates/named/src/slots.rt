@@ -4,8 +4,8 @@ ghost use Rattle.std.specs.Prelude.{◌≡◌, ◌<◌, ◌≤◌, ◌+◌, ℕ,
 ghost use Rattle.std.specs.List.{list_any};
 ghost use Rattle.persist.specs.Memory.{Words, words_after_crash};
 ghost use Rattle.named.specs.Booting.{AreBootWords, AreKept, AreSlotsBooted, IsBootedBy};
-ghost use Rattle.named.specs.Each.{EachBecame, EachSlot, HasFullSlot, HasMoreRoom, HasStopped};
-ghost use Rattle.named.specs.Slots.{AreEffectsFew, HasRoomFor};
+ghost use Rattle.named.specs.Each.{EachBecame, EachSlot, HasFullSlot, HasMoreRoom, HasOtherRoom, HasStopped};
+ghost use Rattle.named.specs.Slots.{AreEffectsFew, HasEmptyHistory, HasRoomFor};
 ghost use Rattle.named.specs.Rotating.{has_calls_in, AreBases, AreBegunAnew, AreQuiet};
 ghost use Rattle.named.specs.declared.slot.Slot.TheVariants.{Closed};
 
@@ -87,6 +87,20 @@ pub(crate) fn reserve_each(slots: &mut [Slot], acts: usize) -> Result<(), Refusa
         slot.make_room(acts)?;
     }
     Ok(())
+}
+
+/// The history of each open slot's queue, of which nothing happened yet, takes the room of that of the slot in its place
+/// among the others, which are let go.
+pub(crate) fn take_rooms(slots: &mut [Slot], mut others: Vec<Slot>, acts: usize)
+    requires empty { EachSlot HasEmptyHistory slots.old }
+    requires room { EachSlot (HasRoomFor acts) slots.old }
+    ensures same { EachBecame HasOtherRoom slots.old slots.new }
+    ensures room { EachSlot (HasRoomFor acts) slots.new }
+{
+    others.reverse();
+    for slot in slots.iter_mut() {
+        slot.take_room(others.pop(), acts);
+    }
 }
 
 /// Each open slot's queue stops, where there is room for that in its history.
