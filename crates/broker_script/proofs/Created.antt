@@ -12,7 +12,7 @@ use Rattle.directory.specs.declared.creation.SlotWord.TheVariants.{FirstName, Se
 use Rattle.directory.specs.declared.queue.Queue.{Queue}
 use Rattle.named.specs.Brokers.{Brokered, IsDirectoryAt, IsOpened, IsStepCreated, IsWell}
 use Rattle.named.specs.declared.recovery.BrokerRecovery.{BrokerRecovery}
-use Rattle.broker_script.specs.Creating.{IsCreationStep}
+use Rattle.broker_script.specs.Creating.{IsCreationAnswered}
 
 -- the slot that a step opened is the creation's
 opened_by : (old new : Brokered) (creation : Creation) (slot : SlotId) (at : CreationPoint)
@@ -31,7 +31,7 @@ pub record IsThere (new : Brokered) (slot : SlotId) : Type 0 where
   pub queue : Queue
   pub has : HasQueue new.directory slot.0 queue
 
-opened : (old new : Brokered) (slot : SlotId) → IsWell old → IsCreationStep old (Ok (Some slot)) new
+opened : (old new : Brokered) (slot : SlotId) → IsWell old → IsCreationAnswered old (Ok (Some slot)) new
     → (recovery : Option BrokerRecovery) → old.recovery ≡ recovery → (creation : Option Creation)
     → old.creation ≡ creation → IsThere new slot
 opened old new slot well step (Some recovery) down creation is =
@@ -57,12 +57,12 @@ opened old new slot well step None ready (Some creation) is =
           ∙ ap (λ (d : Directory). slice_get d creation.slot.0) by.1.directory ∙ here;
     }
 
-pub opened_there : (old new : Brokered) (slot : SlotId) → IsWell old → IsCreationStep old (Ok (Some slot)) new
+pub opened_there : (old new : Brokered) (slot : SlotId) → IsWell old → IsCreationAnswered old (Ok (Some slot)) new
     → IsThere new slot
 opened_there old new slot well step = opened old new slot well step old.recovery refl old.creation refl
 
 -- so it is of a step that may have opened one
-pub opened_if : (old new : Brokered) (o : Option SlotId) → IsWell old → IsCreationStep old (Ok o) new
+pub opened_if : (old new : Brokered) (o : Option SlotId) → IsWell old → IsCreationAnswered old (Ok o) new
     → IfSome o (λ slot. (queue : Queue) × HasQueue new.directory slot.0 queue)
 opened_if old new None well step = tt
 opened_if old new (Some slot) well step =

@@ -23,7 +23,7 @@ use Rattle.playing.specs.Transcript.{evict_line}
 use Rattle.playing.specs.declared.lines.Line.{Line}
 use Rattle.playing.specs.declared.lines.Line.TheVariants.{Refused}
 use Rattle.broker_script.specs.Asking.{answer_line, begun_line, FollowsAsked}
-use Rattle.broker_script.specs.Creating.{Creates, IsBegunOn, IsCreationStep, stays, opens, ends, goes_on}
+use Rattle.broker_script.specs.Creating.{Creates, IsBegunOn, IsCreationAnswered, stays, opens, ends, goes_on}
 use Rattle.broker_script.specs.Imaging.{boot_line, IsNotBooted}
 use Rattle.broker_script.specs.OnQueue.{found_line, Follows, FollowsPlaced, IsRefusedOn}
 use Rattle.broker_script.specs.Plain.{is_answer, without_refusals}
@@ -87,7 +87,7 @@ no_refused_step : (b new : Brokered) (creation : Creation) (refusal : Refusal) (
 no_refused_step b new creation refusal (More next) step = let e = step.0 in absurd (cc)
 no_refused_step b new creation refusal (Done slot) step = let e = step.0 in absurd (cc)
 
-creation_refusal : (b new : Brokered) (refusal : Refusal) → IsCreationStep b (Err refusal) new → refusal ≢ NoMemory
+creation_refusal : (b new : Brokered) (refusal : Refusal) → IsCreationAnswered b (Err refusal) new → refusal ≢ NoMemory
 creation_refusal b new refusal step is = go b.recovery refl b.creation refl
   where
     go : (r : Option BrokerRecovery) → b.recovery ≡ r → (k : Option Creation) → b.creation ≡ k → ⊥

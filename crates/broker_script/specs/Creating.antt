@@ -19,13 +19,13 @@ use Rattle.broker_script.specs.declared.printed.Printed.TheVariants.{Whole, Crea
 abbrev pub HasSomeQueue : Directory → ℕ → Type 0
 HasSomeQueue directory slot = (queue : Queue) × HasQueue directory slot queue
 
--- the line of the queue that a creation opened there
+-- the line of the slot's queue, with the steps that its creation took
 abbrev pub ShowsCreated : Played → SlotId → List Printed → Type 0
 ShowsCreated p slot lines =
     (queue : Queue) × HasQueue p.broker.directory slot.0 queue × (lines ≡ Created queue.name slot p.creation ∷ [])
 
 -- a step of the creation that is under way, or why there is none
-pub record IsCreationStep (old : Brokered) (result : Result (Option SlotId) Refusal) (new : Brokered) : Type 0 where
+pub record IsCreationAnswered (old : Brokered) (result : Result (Option SlotId) Refusal) (new : Brokered) : Type 0 where
   pub down : is_down old ≡ true → result ≡ Err NotReady
   pub idle : old.recovery ≡ None → old.creation ≡ None → result ≡ Err Idle
   pub same : OnErr result (new ≡ old)
@@ -41,7 +41,7 @@ creation_counted steps (Ok opened) = count_after 1 steps
 creation_counted steps (Err refusal) = steps
 
 pub record IsCreatedOn (old : Played) (result : Result (Option SlotId) Refusal) (new : Played) : Type 0 where
-  pub step : IsCreationStep old.broker result new.broker
+  pub step : IsCreationAnswered old.broker result new.broker
   pub counted : new ≡ record old { broker = new.broker; creation = creation_counted old.creation result }
 
 -- the creation goes on by up to so many steps: they end early at the one that opens the queue, or that is refused

@@ -12,7 +12,7 @@ pub record Adds (old : Played) (attempts before after : List Statement) (new : P
   pub made : Attempts old attempts more new
   pub is : after ≡ before ++ more
 
--- so it was with what this line attempts
+-- the acts that this line attempts were attempted, and those that were accepted added to a list
 abbrev pub AddsActsOf : Statement → Played → List Statement → List Statement → Played → Type 0
 AddsActsOf statement old before after new = Adds old (attempts_of statement) before after new
 

@@ -17,8 +17,8 @@ StandsAlone {A = A} spelling wanted words =
 
 -- a text begins with the spelling of a value that was read, which is one of those that are wanted, and the rest follows
 -- it; or none was read, and nothing follows the spelling of one
-abbrev pub ReadsFirst : {A : Type 0} → (A → List ℕ) → (A → Type 0) → List ℕ → Option (A × Bor (List ℕ)) → Type 0
-ReadsFirst spelling wanted text result =
+abbrev pub ReadsFirstWord : {A : Type 0} → (A → List ℕ) → (A → Type 0) → List ℕ → Option (A × Bor (List ℕ)) → Type 0
+ReadsFirstWord spelling wanted text result =
     MatchOption result (StandsAlone spelling wanted (words_of text))
     (λ r. BeginsWith text (spelling r.0) r.1.now × wanted r.0)
 

@@ -11,7 +11,7 @@ ghost use Rattle.grammar.specs.Lines.{words_of};
 ghost use Rattle.grammar.specs.Reading.{Reads, Reads₂, Reads₃, SaysNone, SaysNone₂, SaysNone₃};
 ghost use Rattle.grammar.specs.declared.commands.Command.{Command};
 ghost use Rattle.broker_script.specs.Grammar.{call_words, is_whole, label, numbered_call_words, IsServedCall, SaysAsk, SaysBroker, SaysStatement};
-ghost use Rattle.broker_script.specs.Rows.{IsNoCreation, IsOfNoBroker, IsOfNoImage, IsOfNoQueue, ReadsFirst, ReadsKindAndSteps};
+ghost use Rattle.broker_script.specs.Rows.{IsNoCreation, IsOfNoBroker, IsOfNoImage, IsOfNoQueue, ReadsFirstWord, ReadsKindAndSteps};
 ghost use Rattle.broker_script.specs.declared.statements.Ask.{Ask};
 ghost use Rattle.broker_script.specs.declared.statements.BrokerLine.{BrokerLine};
 ghost use Rattle.broker_script.specs.declared.statements.Statement.{Statement};
@@ -48,7 +48,7 @@ fn one_name(text: &[u8]) -> Option<Name>
 
 /// The name that a text begins with, and what follows it.
 fn name_first(text: &[u8]) -> Option<(Name, &[u8])>
-    ensures { ReadsFirst (λ name. name) IsName text.now result }
+    ensures { ReadsFirstWord (λ name. name) IsName text.now result }
 {
     let (word, rest) = first_word(text);
     let rest = rest?;
@@ -71,7 +71,7 @@ fn labelled(word: &[u8]) -> Option<Name>
 
 /// The name that labels a line, and what follows it.
 fn label_first(line: &[u8]) -> Option<(Name, &[u8])>
-    ensures { ReadsFirst label IsName line.now result }
+    ensures { ReadsFirstWord label IsName line.now result }
 {
     let (word, rest) = first_word(line);
     let rest = rest?;
@@ -281,7 +281,7 @@ fn told(line: &[u8]) -> Option<Statement>
 
 /// The number that a text begins with, and what follows it.
 fn number_first(text: &[u8], limits: Limits) -> Option<(u64, &[u8])>
-    ensures { ReadsFirst decimal (IsWithin limits) text.now result }
+    ensures { ReadsFirstWord decimal (IsWithin limits) text.now result }
 {
     let (word, rest) = first_word(text);
     let rest = rest?;

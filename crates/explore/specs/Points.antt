@@ -89,6 +89,11 @@ found_by_recovery w recovery = found_in (after_acts w recovery) (taken_of w reco
 abbrev pub found_stopped : State → Found
 found_stopped w = found_by_recovery (after_stop w) (recovery_of w.shape)
 
+-- a world that had made the first of these acts, so many of them, has made the next one too, if there is one
+abbrev pub GoesOnByAct : List (Act ℕ) → ℕ → State → State → Type 0
+GoesOnByAct acts point old new =
+    (w : State) → old ≡ after_acts w (take point acts) → new ≡ after_acts w (take (point + 1) acts)
+
 -- what a crash after these acts comes to
 abbrev pub found_after : Shape → List (Act ℕ) → Evictions → ℕ → Found
 found_after s acts evictions point = found_by_recovery (crashed_world s acts evictions point) (recovery_of s)
@@ -96,11 +101,6 @@ found_after s acts evictions point = found_by_recovery (crashed_world s acts evi
 -- that of a crash after the first of these acts, so many of them
 abbrev pub found_at : Shape → List (Act ℕ) → Evictions → ℕ → Found
 found_at s acts evictions point = found_after s (take point acts) evictions point
-
--- a world that had made the first of these acts, so many of them, has made the next one too, if there is one
-abbrev pub GoesOnByAct : List (Act ℕ) → ℕ → State → State → Type 0
-GoesOnByAct acts point old new =
-    (w : State) → old ≡ after_acts w (take point acts) → new ≡ after_acts w (take (point + 1) acts)
 
 -- those of crashes after the first acts, from so many of them on, up to another number
 abbrev pub found_between : Shape → List (Act ℕ) → Evictions → ℕ → ℕ → List Found

@@ -26,6 +26,7 @@ attempts_of s Content = []
 attempts_of s Order = []
 attempts_of s Again = []
 
+-- the acts that a list of commands attempts, one command after another
 abbrev pub attempts_of_all : Shape → List Command → List (Act ℕ)
 attempts_of_all s commands = flat_map (attempts_of s) commands
 

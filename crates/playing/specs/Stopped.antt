@@ -42,7 +42,7 @@ alone_after s acts point = answers_in point (after_acts (new_world s) acts)
 abbrev pub alone_at : Shape → List (Act ℕ) → ℕ → List Alone
 alone_at s acts point = alone_after s (take point acts) point
 
--- and after each of them
+-- before the first of them, and after each
 abbrev pub alone_at_each : Shape → List (Act ℕ) → List Alone
 alone_at_each s acts = flat_map (alone_at s acts) (range_with_len 0 (length acts + 1))
 

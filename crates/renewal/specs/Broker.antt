@@ -21,7 +21,7 @@ slot_block c slot ws = block_in running c slot ws
 abbrev pub HasSoundBlock : Counts → ℕ → List ℕ → Queue → Type 0
 HasSoundBlock c slot ws queue = AreSoundWords (shape_of queue.kind c) (slot_block c slot ws)
 
--- the block of a slot, which is all 0 where the slot has no queue
+-- what a slot's block becomes under new counts: all 0 where the slot has no queue
 abbrev pub slot_renewed : Counts → Counts → Option Queue → List ℕ → List ℕ
 slot_renewed to c None old = replicate (block_size_of to.clients to.records) 0
 slot_renewed to c (Some queue) old = words_renewed (shape_of queue.kind to) (shape_of queue.kind c) old

@@ -101,7 +101,8 @@ words_renewed to s old = block_renewed (renewal_of to s (kept_in s old))
 abbrev pub ItemsFit : Shape → Shape → List ℕ → Type 0
 ItemsFit to s old = FitFresh to (length (kept_content s (kept_in s old)))
 
--- they may be: the queue becomes one of the same kind, with as many clients or more, and its items fit
+-- these words may become one of that shape: a queue of the same kind, with as many clients or more, which has
+-- room for their items
 pub record MayBecome (s : Shape) (old : List ℕ) (to : Shape) : Type 0 where
   pub sound : AreSoundWords s old
   pub counts : AreCounts s.clients s.records

@@ -1,4 +1,4 @@
-use Rattle.std.proofs.Common.{rules, ◌≡◌, ◌∙◌, ◌+◌, ◌<◌, Some, ap, sym, length, slice_get, slice_index_or, slice_set, refl, arith}
+use Rattle.std.proofs.Common.{◌≡◌, ◌∙◌, ◌<◌, Some, ap, length, slice_get, slice_index_or, refl, arith}
 use Rattle.std.proofs.lemmas.Option.{slice_get_read, slice_get_within}
 use Rattle.named.specs.Each.{HasOtherRoom}
 use Rattle.named.specs.Slots.{HasRoomFor}
