@@ -1,5 +1,5 @@
 -- The words of a broker: a head, a directory of its slots, and a block for the queue of each slot.
-use Rattle.std.specs.Prelude.{ℕ, List, take, drop, ◌+◌, ◌*◌, ◌-◌, ◌/◌, ◌%◌, ◌<◌, Option, Some, None, ◌==◌, nat_lt, if◌then◌else◌}
+use Rattle.std.specs.Prelude.{ℕ, List, take, drop, ◌+◌, ◌*◌, ◌-◌, ◌/◌, ◌%◌, ◌<◌, Option, Some, None, ◌==◌, nat_lt, if◌then◌else◌, ◌≡◌}
 use Rattle.arena.specs.Shape.{Counts}
 use Rattle.arena.specs.declared.form.Form.{Form}
 use Rattle.arena.specs.declared.form.Form.TheVariants.{OfItems, OfValues}
@@ -10,6 +10,9 @@ use Rattle.arena.specs.declared.broker.BrokerPlace.TheVariants.{Clients, Records
 -- a block has room for a queue of either kind: it has as many words as a log queue's layout, the longer of the two
 abbrev pub block_size_of : ℕ → ℕ → ℕ
 block_size_of clients records = 9 + 2 * clients + 11 * (clients * records)
+
+abbrev pub block_len : Counts → ℕ
+block_len c = block_size_of c.clients c.records
 
 -- so it is in either form
 abbrev pub block_size_in : Form → ℕ → ℕ → ℕ
@@ -55,6 +58,10 @@ broker_word c (SecondName slot) = directory_from slot.0 + 1
 broker_word c (QueueKind slot) = directory_from slot.0 + 2
 broker_word c (Gate slot) = directory_from slot.0 + 3
 broker_word c (Block slot word) = block_from c slot.0 + word
+
+-- the layout has the place, and this is its word
+abbrev pub IsPlaceOfWord : Counts → ℕ → BrokerPlace → Type 0
+IsPlaceOfWord c word place = IsBrokerPlace c place × (broker_word c place ≡ word)
 
 abbrev pub directory_place : ℕ → ℕ → BrokerPlace
 directory_place slot field =

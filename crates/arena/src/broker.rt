@@ -4,7 +4,7 @@ ghost use Rattle.std.specs.Prelude.{◌≡◌, ◌↔◌, ◌⊎◌, ℕ, ◌+�
 ghost use Rattle.arena.specs.Shape.{shape_of};
 ghost use Rattle.arena.specs.Limits.{AreBadRecords, AreCounts};
 ghost use Rattle.arena.specs.Layout.{size_of};
-ghost use Rattle.arena.specs.Broker.{block_from_in, block_size_in, broker_size_in, block_size_of, block_from, broker_size, broker_word, broker_place, directory_from, directory_place, IsBrokerPlace};
+ghost use Rattle.arena.specs.Broker.{block_from_in, block_size_in, broker_size_in, block_size_of, block_from, broker_size, broker_word, broker_place, directory_from, directory_place, IsBrokerPlace, block_len, IsPlaceOfWord};
 
 use crate::form::Form;
 use crate::layout::{Layout, MAX_LAYOUT_WORDS, check_counts};
@@ -124,7 +124,7 @@ impl BrokerLayout {
 
     /// How many words each block has.
     pub fn block_size(&self) -> usize
-        ensures value { result ≡ block_size_of self.now.clients self.now.records }
+        ensures value { result ≡ block_len self.now }
         ensures some { 0 < result }
         ensures small { result ≤ MAX_LAYOUT_WORDS }
     {
@@ -165,10 +165,9 @@ impl BrokerLayout {
     pub fn block(&self, slot: SlotId) -> usize
         requires { slot.0 < SLOTS }
         ensures from { result ≡ block_from self.now slot.0 }
-        ensures within { result + block_size_of self.now.clients self.now.records ≤ broker_size self.now }
-        ensures small { result + block_size_of self.now.clients self.now.records ≤ MAX_BROKER_WORDS }
-        ensures apart { (other : ℕ) → slot.0 < other
-            → result + block_size_of self.now.clients self.now.records ≤ block_from self.now other }
+        ensures within { result + block_len self.now ≤ broker_size self.now }
+        ensures small { result + block_len self.now ≤ MAX_BROKER_WORDS }
+        ensures apart { (other : ℕ) → slot.0 < other → result + block_len self.now ≤ block_from self.now other }
     {
         BLOCKS_FROM + slot.0 as usize * self.block_size()
     }
@@ -185,7 +184,7 @@ impl BrokerLayout {
     #[tactic(auto, using(crate::proofs::BrokerWords::queue_fits))]
     pub fn queue(&self, kind: Kind) -> Layout
         ensures layout { result ≡ shape_of kind self.now }
-        ensures fits { size_of (shape_of kind self.now) ≤ block_size_of self.now.clients self.now.records }
+        ensures fits { size_of (shape_of kind self.now) ≤ block_len self.now }
     {
         Layout {
             kind,
@@ -217,8 +216,7 @@ impl BrokerLayout {
     #[tactic(auto, using(crate::proofs::BrokerWords::broker_named))]
     pub fn what_is(&self, word: usize) -> Option<BrokerPlace>
         ensures place { result ≡ broker_place self.now word }
-        ensures named { MatchOption result (broker_size self.now ≤ word)
-            (λ place. IsBrokerPlace self.now place × (broker_word self.now place ≡ word)) }
+        ensures named { MatchOption result (broker_size self.now ≤ word) (IsPlaceOfWord self.now word) }
     {
         if word == 0 {
             Some(BrokerPlace::Clients)

@@ -1,4 +1,5 @@
 //! What holds of the words of a directory: at rest, while a queue is created, and while it is recovered.
+// A law's clause begins with all that it speaks of, so some of them are longer than 120 columns.
 
 ghost use Rattle.std.specs.Prelude.{◌≡◌, ℕ, ◌+◌, ◌<◌, ◌≤◌, None, replicate};
 ghost use Rattle.persist.specs.Memory.{Words, words_after_eviction, words_after_crash, IsSameOutside};

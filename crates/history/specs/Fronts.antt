@@ -1,5 +1,5 @@
 -- The queue by its front: what is left of the base, and what the entries from the front on put into it.
-use Rattle.std.specs.Prelude.{ℕ, ◌≡◌, ◌≤◌, List, ◌++◌, Option, Some, None, length, take, drop}
+use Rattle.std.specs.Prelude.{ℕ, ◌≡◌, ◌≤◌, List, ◌++◌, Option, Some, None, length, take, drop, option_to_list}
 use Rattle.words.specs.PlainQueue.{Value}
 use Rattle.words.specs.declared.call.Reply.{Reply}
 use Rattle.words.specs.declared.call.Reply.TheVariants.{Got, Empty}
@@ -20,6 +20,18 @@ queue_from events base order taken from to = drop taken base ++ values_between e
 -- so it is where its front stands there
 abbrev pub queue_at : List Event → List Value → List Entry → Fronts → ℕ → List Value
 queue_at events base order fronts to = queue_from events base order fronts.base fronts.entry to
+
+-- this is the first value that the entries from one place up to another put into the queue, if they put one; those from
+-- `after` on put the rest
+abbrev pub IsFirstPut : List Event → List Entry → ℕ → ℕ → Option Value → ℕ → Type 0
+IsFirstPut events order from to value after =
+    values_between events order from to ≡ option_to_list value ++ values_between events order after to
+
+-- this is the first value that the queue holds before the entry at `to`, if it holds one; past it the front stands at
+-- `after`
+abbrev pub IsFirstHeld : List Event → List Value → List Entry → Fronts → ℕ → Option Value → Fronts → Type 0
+IsFirstHeld events base order fronts to value after =
+    queue_at events base order fronts to ≡ option_to_list value ++ queue_at events base order after to
 
 -- what a dequeue answers whose queue has this front
 abbrev pub reply_of_front : Option Value → Reply

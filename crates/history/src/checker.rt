@@ -4,7 +4,7 @@ ghost use Rattle.std.specs.Prelude.{◌<◌, ◌≡◌, ◌↔◌, length, IfErr
 ghost use Rattle.events.specs.Explains.{Explains, IsExplained, KeepsPrecedence};
 ghost use Rattle.events.specs.History.{IsHistory};
 ghost use Rattle.events.specs.Orders.{IsNew};
-ghost use Rattle.history.specs.Replaying.{left_by};
+ghost use Rattle.history.specs.Replaying.{IsExplainedLeaving};
 ghost use Rattle.history.specs.Sweeps.{Tells};
 
 use crate::answering::all_answered;
@@ -82,8 +82,7 @@ pub fn check_content(
     order: &Order,
     content: &[Value],
 ) -> Result<bool, Refusal>
-    ensures right { IfOk result (λ right. IsTrue right
-        ↔ IsExplained history.now order.now × (content.now ≡ left_by history.now order.now)) }
+    ensures right { IfOk result (λ right. IsTrue right ↔ IsExplainedLeaving history.now order.now content.now) }
     ensures errors { IfErr result (λ e. e ≡ Refusal.NoMemory) }
 {
     if !check(history, order) {

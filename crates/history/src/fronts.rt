@@ -1,8 +1,8 @@
 //! The replay of an order without memory: where the front of the queue stands.
 
-ghost use Rattle.std.specs.Prelude.{◌≡◌, ◌<◌, ◌≤◌, ◌+◌, ◌↔◌, ◌++◌, [], length, IsTrue, IfNone, take, option_to_list};
+ghost use Rattle.std.specs.Prelude.{◌≡◌, ◌<◌, ◌≤◌, ◌+◌, ◌↔◌, [], length, IsTrue, IfNone, take};
 ghost use Rattle.history.specs.Counting.{values_of_order};
-ghost use Rattle.history.specs.Fronts.{values_between, queue_at, reply_of_front, IsFront};
+ghost use Rattle.history.specs.Fronts.{values_between, queue_at, reply_of_front, IsFirstHeld, IsFirstPut, IsFront};
 ghost use Rattle.events.specs.Replay.{queue_after, IsRightAt, Replays};
 
 use crate::replaying::{named_call, value_put};
@@ -21,8 +21,7 @@ fn take_put(events: &Events, entries: &[Entry], front: &mut usize, to: usize) ->
     requires below { front.old ≤ to }
     requires within { to ≤ length entries.now }
     ensures below { front.new ≤ to }
-    ensures front { values_between events.now.items entries.now front.old to ≡
-        option_to_list result ++ values_between events.now.items entries.now front.new to }
+    ensures front { IsFirstPut events.now.items entries.now front.old to result front.new }
     ensures none { IfNone result (values_between events.now.items entries.now front.old to ≡ []) }
 {
     let from = *front;
@@ -50,8 +49,7 @@ fn take_front(
     requires within { to ≤ length entries.now }
     ensures base { fronts.new.base ≤ length base.now }
     ensures entry { fronts.new.entry ≤ to }
-    ensures front { queue_at events.now.items base.now entries.now fronts.old to ≡
-        option_to_list result ++ queue_at events.now.items base.now entries.now fronts.new to }
+    ensures front { IsFirstHeld events.now.items base.now entries.now fronts.old to result fronts.new }
     ensures none { IfNone result (queue_at events.now.items base.now entries.now fronts.old to ≡ []) }
 {
     if fronts.base < base.len() {

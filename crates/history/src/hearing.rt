@@ -3,12 +3,11 @@
 
 ghost use Rattle.std.specs.Prelude.{◌≡◌, ◌<◌, ◌≤◌, ◌+◌, ◌^◌, ◌↔◌, ◌⊎◌, Some, length, IsTrue, IfSome, IfNone, All};
 ghost use Rattle.std.specs.Prelude.{EachIndex, slice_get};
-ghost use Rattle.events.specs.Telling.{IsToldSome, IsToldBase, TellsAt};
+ghost use Rattle.events.specs.Telling.{TellsAt};
 ghost use Rattle.history.specs.Hearing.{IsOutcomeTaken, IsRowTaken, SaysTaken, SaysNotTaken, IsToldNotTaken};
-ghost use Rattle.history.specs.Hearing.{IsToldNotTakenIn, IsLastEntry, IsLast, SaysLast, IsSaidLast, IsProgress};
-ghost use Rattle.history.specs.Hearing.{IsProgressTo, HasNoCall, IsToldAt, IsToldOfAll, BeginsSomeTold, IsLaterEntry};
+ghost use Rattle.history.specs.Hearing.{IsToldNotTakenIn, SaysLast, HasNoCall, BeginsSomeTold, IsLaterEntry};
 ghost use Rattle.history.specs.Hearing.{TellsSixteen};
-ghost use Rattle.history.specs.Listening.{IsProgressAt, IsProgressUpTo, IsToldRightly};
+ghost use Rattle.history.specs.Listening.{HearsAll, HearsAt, HearsOfLast, IsProgressAt, IsProgressUpTo, IsToldRightly};
 ghost use Rattle.events.specs.Explains.{KeepsPrecedence};
 ghost use Rattle.events.specs.History.{IsHistory};
 ghost use Rattle.history.specs.Sweeps.{Ascends};
@@ -147,8 +146,7 @@ struct Progress {
 fn says_of_last(who: &Listener, told: &Told, last: Option<usize>) -> bool
     requires within { IfSome last (λ i. i < length who.now.entries.now) }
     requires calls { All (λ entry. entry.place < length who.now.events.now.items) who.now.entries.now }
-    ensures { IsTrue result ↔
-        IsSaidLast who.now.kind who.now.events.now.items who.now.entries.now who.now.client told.now last }
+    ensures { IsTrue result ↔ HearsOfLast who.now told.now last }
 {
     match last {
         Some(i) => says_last(who, told, i),
@@ -308,8 +306,7 @@ fn is_told_at(
     requires progress { IsProgressAt who.now q progress }
     requires few { progress.calls ≤ q }
     requires later { HasNoCall who.now.kind who.now.events.now.items who.now.client progress.calls q }
-    ensures told { IsTrue result ↔
-        IsToldAt who.now.kind base.now who.now.events.now.items who.now.entries.now who.now.client q }
+    ensures told { IsTrue result ↔ HearsAt who.now base.now q }
     ensures sixteen { TellsSixteen who.now.events.now.items q }
 {
     match who.events.at(q) {
@@ -326,8 +323,7 @@ fn is_told_of_all(who: &Listener, base: &Reports) -> bool
     requires calls { All (λ entry. entry.place < length who.now.events.now.items) who.now.entries.now }
     requires once { EachIndex who.now.entries.now (λ i. IsNew who.now.entries.now i) }
     requires ascends { Ascends who.now.events.now.items who.now.entries.now who.now.client }
-    ensures told { IsTrue result ↔
-        IsToldOfAll who.now.kind base.now who.now.events.now.items who.now.entries.now who.now.client }
+    ensures told { IsTrue result ↔ HearsAll who.now base.now }
     ensures sixteen { IsTrue result
         → EachIndex who.now.events.now.items (λ q. TellsSixteen who.now.events.now.items q) }
 {

@@ -4,8 +4,8 @@ ghost use Rattle.std.specs.Prelude.{◌≡◌, ◌<◌, ◌≤◌, ◌↔◌, �
 ghost use Rattle.std.specs.Prelude.{option_to_list};
 ghost use Rattle.words.specs.PlainQueue.{reply_of, served};
 ghost use Rattle.history.specs.Counting.{HasAllButFirst, values_of_call, values_of_order, dequeue_count};
-ghost use Rattle.events.specs.Replay.{call_at, queue_after_call, queue_after, IsServed, Replays, IsFirstWrong};
-ghost use Rattle.history.specs.Replaying.{IsFirstWrongIn, ReplaysIn, left_by};
+ghost use Rattle.events.specs.Replay.{call_at, queue_after, IsServed, Replays, IsFirstWrong};
+ghost use Rattle.history.specs.Replaying.{CallLeaves, IfReplayed, IsFirstWrongIn, ReplaysIn, left_by};
 
 use events::{Entry, Event, Events, History, Order, is_same_reply};
 use std::alloc::{AllocError, Global};
@@ -54,8 +54,8 @@ fn answer(queue: &mut Vec<Value>, call: Call) -> Result<Reply, AllocError>
 /// Serves the call of the entry, and says whether the entry names one and has the queue's reply.
 fn is_served(queue: &mut Vec<Value>, events: &Events, entry: &Entry) -> Result<bool, AllocError>
     ensures served { IfOk result (λ yes. IsTrue yes ↔ IsServed events.now.items queue.old.items entry.now) }
-    ensures left { IfOk result (λ yes. IsTrue yes → queue.new.items ≡
-        queue_after_call queue.old.items (call_at events.now.items entry.now.place)) }
+    ensures left { IfOk result (λ yes. IsTrue yes
+        → CallLeaves events.now.items queue.old.items entry.now queue.new.items) }
 {
     let Some(call) = named_call(events, entry.place) else {
         return Ok(false);
@@ -71,9 +71,8 @@ fn replay_from(
     base: &[Value],
     entries: &[Entry],
 ) -> Result<Result<Vec<Value>, usize>, AllocError>
-    ensures right { IfOk result (λ answer. IfOk answer (λ left. Replays events.now.items base.now entries.now)) }
-    ensures left { IfOk result (λ answer. IfOk answer
-        (λ left. left.items ≡ queue_after events.now.items base.now entries.now)) }
+    ensures right { IfReplayed result (λ left. Replays events.now.items base.now entries.now) }
+    ensures left { IfReplayed result (λ left. left.items ≡ queue_after events.now.items base.now entries.now) }
     ensures wrong { IfOk result (λ answer. IfErr answer (IsFirstWrong events.now.items base.now entries.now)) }
 {
     let mut queue = Vec::from_slice(alloc, base)?;
@@ -92,8 +91,8 @@ pub fn replay(
     history: &History,
     order: &Order,
 ) -> Result<Result<Vec<Value>, usize>, Refusal>
-    ensures right { IfOk result (λ answer. IfOk answer (λ left. ReplaysIn history.now order.now)) }
-    ensures left { IfOk result (λ answer. IfOk answer (λ left. left.items ≡ left_by history.now order.now)) }
+    ensures right { IfReplayed result (λ left. ReplaysIn history.now order.now) }
+    ensures left { IfReplayed result (λ left. left.items ≡ left_by history.now order.now) }
     ensures wrong { IfOk result (λ answer. IfErr answer (IsFirstWrongIn history.now order.now)) }
     ensures errors { IfErr result (λ e. e ≡ Refusal.NoMemory) }
 {

@@ -1,10 +1,9 @@
 //! What clients are told at a Ready.
 
 ghost use Rattle.std.specs.Prelude.{◌≡◌, ◌<◌, ◌≤◌, ◌↔◌, ◌⊎◌, Some, All, EachIndex, length, IsTrue, slice_get};
-ghost use Rattle.events.specs.Telling.{IsToldOf, BeginsTaken, HasNoneTaken, IsOutcome, IsRow, Says, IsToldCall};
-ghost use Rattle.events.specs.Telling.{IsToldSome, IsToldBase, TellsRightly, TellsAt, IsToldTaken};
-ghost use Rattle.events.specs.Telling.{IsToldIfInterrupted};
-ghost use Rattle.history.specs.Listening.{IsToldRightly};
+ghost use Rattle.events.specs.Telling.{IsToldOf, BeginsTaken, IsOutcome, IsRow, Says, TellsRightly, TellsAt};
+ghost use Rattle.events.specs.Telling.{IsToldTaken, IsToldIfInterrupted};
+ghost use Rattle.history.specs.Listening.{HearsBase, HearsOfCall, HearsOfSome, IsToldRightly, TakesNone};
 
 use crate::ordering::{in_order, is_taken_as};
 use events::{Entry, Event, Events, is_same_told};
@@ -45,8 +44,7 @@ fn begins_taken(who: &Listener, p: usize) -> bool
 /// Whether none of these calls from one place up to another is in the order.
 fn has_none_taken(who: &Listener, from: usize, to: usize) -> bool
     requires { to ≤ length who.now.events.now.items }
-    ensures { IsTrue result ↔
-        HasNoneTaken who.now.kind who.now.events.now.items who.now.entries.now who.now.client from to }
+    ensures { IsTrue result ↔ TakesNone who.now from to }
 {
     for p in from..to {
         if begins_taken(who, p) {
@@ -95,8 +93,7 @@ fn says(kind: Kind, entries: &[Entry], p: usize, number: u64, told: &Told) -> bo
 fn is_told_call(who: &Listener, ready: usize, told: &Told, p: usize) -> bool
     requires first { p < ready }
     requires second { ready ≤ length who.now.events.now.items }
-    ensures { IsTrue result ↔
-        IsToldCall who.now.kind who.now.events.now.items who.now.entries.now who.now.client ready told.now p }
+    ensures { IsTrue result ↔ HearsOfCall who.now ready told.now p }
 {
     match who.events.at(p) {
         Event::Call {
@@ -116,8 +113,7 @@ fn is_told_call(who: &Listener, ready: usize, told: &Told, p: usize) -> bool
 /// Whether the client is told of one of its calls begun before the Ready.
 fn is_told_some(who: &Listener, ready: usize, told: &Told) -> bool
     requires { ready ≤ length who.now.events.now.items }
-    ensures { IsTrue result ↔
-        IsToldSome who.now.kind who.now.events.now.items who.now.entries.now who.now.client ready told.now }
+    ensures { IsTrue result ↔ HearsOfSome who.now ready told.now }
 {
     for p in 0..ready {
         if is_told_call(who, ready, told, p) {
@@ -140,8 +136,7 @@ pub(crate) fn is_told(tells: &Reports, client: Client, told: &Told) -> bool
 /// Whether none of the client's calls before the Ready is in the order, and it is told what the base tells.
 fn is_told_base(who: &Listener, base: &Reports, ready: usize, told: &Told) -> bool
     requires { ready ≤ length who.now.events.now.items }
-    ensures { IsTrue result ↔
-        IsToldBase who.now.kind base.now who.now.events.now.items who.now.entries.now who.now.client ready told.now }
+    ensures { IsTrue result ↔ HearsBase who.now base.now ready told.now }
 {
     is_told(base, who.client, told) && has_none_taken(who, 0, ready)
 }

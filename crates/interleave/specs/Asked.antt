@@ -1,10 +1,13 @@
 -- What was asked for through the ports of a world's clients and of its recovery: each that waits to complete a flush
 -- has asked for it.
-use Rattle.std.specs.Prelude.{ℕ, zero, suc, Bool, false, List, Option, Some, None, Result, Ok, Err, slice_get, slice_index_or, if◌then◌else◌}
+use Rattle.std.specs.Prelude.{◌≡◌, ℕ, zero, suc, Bool, false, List, Option, Some, None, Result, Ok, Err, slice_get, slice_index_or, if◌then◌else◌}
 use Rattle.words.specs.declared.call.Client.{Client}
 use Rattle.words.specs.declared.limits.TheConstants.{RECOVERY_PORT}
 use Rattle.words.specs.declared.refusal.Refusal.{Refusal}
+use Rattle.words.specs.declared.call.Reply.{Reply}
 use Rattle.persist.specs.Memory.{Lent, MemoryState, Request, Words, asked_through, seen_whole}
+use Rattle.persist.specs.Noted.{answer_in}
+use Rattle.persist.specs.declared.access.Noted.{Noted}
 use Rattle.arena.specs.Shape.{Shape}
 use Rattle.stepper.specs.Step.{IsAskedFor, lent_after_one}
 use Rattle.helping.specs.Table.{access_of}
@@ -73,3 +76,14 @@ lent_once_answered steps client c ws lent = lent_after_alone steps (state_of c w
 
 abbrev pub lent_once_recovered : {X : Type 0} → Result X Refusal → CoreState → Words → Lent → Lent
 lent_once_recovered result c ws lent = lent_after_recover (is_no_memory result) (state_of c ws) lent
+
+-- the same where the step also answers the change that it made
+abbrev pub lent_by_noted_step : {X : Type 0} → Result (Noted X) Refusal → Client → CoreState → Words → Lent → Lent
+lent_by_noted_step result client c ws lent = lent_once_stepped (answer_in result) client c ws lent
+
+abbrev pub lent_by_noted_recovery : {X : Type 0} → Result (Noted X) Refusal → CoreState → Words → Lent → Lent
+lent_by_noted_recovery result c ws lent = lent_once_recovered (answer_in result) c ws lent
+
+-- the port is lent so once the call has gone on alone to this answer, in so many steps
+abbrev pub IsLentAlone : Client → CoreState → Words → Lent → Lent → (Reply × ℕ) → Type 0
+IsLentAlone client c ws lent left answer = left ≡ lent_once_answered answer.1 client c ws lent

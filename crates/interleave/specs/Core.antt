@@ -11,7 +11,7 @@ use Rattle.events.specs.declared.event.Effect.{Effect}
 use Rattle.protocol.specs.Machine.{World}
 use Rattle.protocol.specs.declared.UnderWay.{UnderWay}
 use Rattle.interleave.specs.Calls.{is_no_memory, waiting_result}
-use Rattle.interleave.specs.State.{State, after_stop, start_with}
+use Rattle.interleave.specs.State.{State, after_stop, start_result_with, start_with}
 use Rattle.interleave.specs.Trace.{Roomy, Traced, machine_with, state_with, with_effects}
 use Rattle.interleave.specs.declared.queue.Queue.{Queue}
 
@@ -57,6 +57,14 @@ call_begun_by c begun = record { place = length c.trace.log.events; begun = begu
 -- what a start of this number leaves, of a client that may begin a call
 abbrev pub left_by_start : Result Unit Refusal → CoreState → Words → Client → ℕ → Call → State
 left_by_start result c ws client number call = start_with (is_no_memory result) (state_of c ws) client call (Ok number)
+
+abbrev pub IsLeftByStart : Result Unit Refusal → Client → ℕ → Call → CoreState → Words → CoreState → Words → Type 0
+IsLeftByStart result client number call old ws new left =
+    state_of new left ≡ left_by_start result old ws client number call
+
+-- and what it answers
+abbrev pub answer_to_start : Result Unit Refusal → CoreState → Words → Client → ℕ → Result Unit Refusal
+answer_to_start result c ws client number = start_result_with (is_no_memory result) (state_of c ws) client (Ok number)
 
 -- the whole system stopped, whatever was cached
 abbrev pub IsStopped : CoreState → CoreState → Type 0

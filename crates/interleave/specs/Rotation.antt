@@ -10,6 +10,7 @@ use Rattle.persist.specs.Memory.{Words}
 use Rattle.protocol.specs.Rotated.{empty_trace}
 use Rattle.protocol.specs.declared.UnderWay.{UnderWay}
 use Rattle.interleave.specs.Core.{CoreState, state_of}
+use Rattle.interleave.specs.Holds.{Holds}
 use Rattle.interleave.specs.Numbers.{IsEntryOf, told_floor}
 use Rattle.interleave.specs.Queue.{told_in}
 use Rattle.interleave.specs.State.{State, is_down, kept_content, kept_tells, order_in, AreToldOfAnnounced}
@@ -50,9 +51,13 @@ rotate_result full w =
 abbrev pub after_rotate : Bool → State → State
 after_rotate full w = if is_ok (rotate_result full w) then after_rotation w else w
 
--- the same of a core, with these kept words and whatever is cached: its history ended, and another begins
+-- the same of a core, with these kept words and whatever is cached: its history ended, and another begins; and what
+-- holds of every world holds of it still
 abbrev pub BeginsAnew : List ℕ → CoreState → CoreState → Type 0
 BeginsAnew kept old new = (ws : Words) → ws.kept ≡ kept → state_of new ws ≡ after_rotation (state_of old ws)
+
+abbrev pub HoldsAnew : List ℕ → CoreState → CoreState → Type 0
+HoldsAnew kept old new = (ws : Words) → ws.kept ≡ kept → Holds (state_of old ws) → Holds (state_of new ws)
 
 abbrev pub IsLeftByRotate : Bool → List ℕ → CoreState → CoreState → Type 0
 IsLeftByRotate full kept old new = (ws : Words) → ws.kept ≡ kept → state_of new ws ≡ after_rotate full (state_of old ws)

@@ -75,6 +75,16 @@ IsByRuleOver rule old ws result new left = IsByRule rule (roomy_over old ws) res
 abbrev pub IsByAloneOver : Client → CoreState → Words → Result (Reply × ℕ) Refusal → CoreState → Words → Type 0
 IsByAloneOver client old ws result new left = IsByAlone client (roomy_over old ws) result (roomy_over new left)
 
+-- a start of a client's call, a step of it, and a step of recovery were made or refused so
+abbrev pub IsByStartOver : Client → ℕ → Call → CoreState → Words → Result Unit Refusal → CoreState → Words → Type 0
+IsByStartOver client number call = IsByRuleOver (starting client number call)
+
+abbrev pub IsByStepOver : Client → CoreState → Words → Result (Option Reply) Refusal → CoreState → Words → Type 0
+IsByStepOver client = IsByRuleOver (stepping client)
+
+abbrev pub IsByRecoverOver : CoreState → Words → Result Bool Refusal → CoreState → Words → Type 0
+IsByRecoverOver = IsByRuleOver recovering
+
 -- the client's call is answered within so many steps, where it goes on alone
 pub record IsAnsweredWithin (most : ℕ) (w : State) (client : Client) : Type 0 where
   pub steps : ℕ

@@ -2,13 +2,13 @@
 use Rattle.std.specs.Prelude.{◌≡◌, Option, slice_set}
 use Rattle.words.specs.declared.call.Client.{Client}
 use Rattle.words.specs.declared.call.Reply.{Reply}
-use Rattle.persist.specs.Memory.{Words}
+use Rattle.persist.specs.Memory.{Lent, Words}
 use Rattle.persist.specs.declared.access.Noted.{Noted}
 use Rattle.protocol.specs.Machine.{effects_after, next_of, with_next, with_step}
 use Rattle.protocol.specs.declared.UnderWay.{UnderWay}
 use Rattle.interleave.specs.Calls.{answer_of, OfCall}
 use Rattle.interleave.specs.Core.{CoreState, machine_over}
-use Rattle.interleave.specs.Points.{change_by_op, words_by_op}
+use Rattle.interleave.specs.Points.{change_by_op, lent_by_op, words_by_op}
 use Rattle.interleave.specs.Trace.{HaveRoom}
 
 -- there is room for the effects after it
@@ -27,3 +27,7 @@ pub record IsSteppedBy (u : UnderWay) (client : Client) (old : CoreState) (ws : 
 
 abbrev pub IsCallStep : Client → CoreState → Words → CoreState → Words → Noted (Option Reply) → Type 0
 IsCallStep client old ws new left noted = OfCall old.calls client (λ u. IsSteppedBy u client old ws new left noted)
+
+-- and it lent its port so
+abbrev pub IsLentByCall : Client → CoreState → Lent → Lent → Type 0
+IsLentByCall client c lent left = OfCall c.calls client (λ u. left ≡ lent_by_op c.shape u.op lent)

@@ -1,7 +1,7 @@
 //! A call that goes on alone.
 
 ghost use Rattle.std.specs.Prelude.{◌≡◌, ◌≤◌, ◌+◌, ◌⊎◌, is_some, slice_get, slice_index_or, true, Err, None, IfOk, IfErr};
-ghost use Rattle.interleave.specs.Asked.{lent_once_answered, IfCallAsked};
+ghost use Rattle.interleave.specs.Asked.{IfCallAsked, IsLentAlone};
 ghost use Rattle.interleave.specs.Core.{state_of};
 ghost use Rattle.interleave.specs.Holds.{Holds};
 ghost use Rattle.interleave.specs.Rules.{IsByAloneOver};
@@ -25,8 +25,8 @@ impl Core {
             (M.lent memory.old).request }
         ensures alone { IsByAloneOver client self.old (M.words memory.old) result self.new (M.words memory.new) }
         ensures holds { Holds (state_of self.new (M.words memory.new)) }
-        ensures lent { IfOk result (λ answer. M.lent memory.new
-            ≡ lent_once_answered answer.1 client self.old (M.words memory.old) (M.lent memory.old)) }
+        ensures lent { IfOk result
+            (IsLentAlone client self.old (M.words memory.old) (M.lent memory.old) (M.lent memory.new)) }
         ensures left { IfErr result (λ e. M.lent memory.new ≡ M.lent memory.old) }
     {
         self.waiting(client)?;

@@ -1,8 +1,8 @@
 //! What a queue holds.
 
-ghost use Rattle.std.specs.Prelude.{◌≡◌, ◌++◌, IfOk, IfErr, OnOk};
+ghost use Rattle.std.specs.Prelude.{◌≡◌, IfOk, IfErr, OnOk};
 ghost use Rattle.arena.specs.Place.{IsNode};
-ghost use Rattle.interleave.specs.Content.{content_by, unclaimed_by};
+ghost use Rattle.interleave.specs.Content.{content_by, AddsValue};
 ghost use Rattle.interleave.specs.Ranges.{KeptFit};
 
 use crate::notice::{kept_at, kept_value};
@@ -20,8 +20,8 @@ fn add_unclaimed<K: KeptWords>(
 ) -> Result<(), Refusal>
     requires node { IsNode layout.now node.0 }
     requires fit { KeptFit layout.now (K.kept_words kept.now) }
-    ensures added { OnOk result (values.new.items
-        ≡ values.old.items ++ unclaimed_by layout.now (K.kept_words kept.now) node.0) }
+    ensures added { OnOk result
+        (AddsValue layout.now (K.kept_words kept.now) node.0 values.old.items values.new.items) }
     ensures errors { IfErr result (λ e. e ≡ Refusal.NoMemory) }
 {
     if kept_at(layout, kept, Place::Mark(node)) != 0 {

@@ -3,14 +3,13 @@
 ghost use Rattle.std.specs.Prelude.{◌≡◌, ◌<◌, ◌≤◌, ◌+◌, true, false, is_some, length, IfSome, None, Ok, IfErr};
 ghost use Rattle.persist.specs.Memory.{Words, words_after_crash};
 ghost use Rattle.persist.specs.Noted.{answer_in, change_in, IsNoted};
-ghost use Rattle.interleave.specs.Asked.{lent_once_recovered, IfRecoveryAsked};
+ghost use Rattle.interleave.specs.Asked.{lent_by_noted_recovery, lent_once_recovered, IfRecoveryAsked};
 ghost use Rattle.interleave.specs.Calls.{is_no_memory};
 ghost use Rattle.interleave.specs.Core.{core_with_room, state_of, IsStopped};
 ghost use Rattle.interleave.specs.Holds.{Holds};
-ghost use Rattle.interleave.specs.Points.{lent_by_recovery};
 ghost use Rattle.interleave.specs.Queue.{queue_with_reports};
-ghost use Rattle.interleave.specs.Recoveries.{IsRecoveryStep, MayRecover, OfRecovery};
-ghost use Rattle.interleave.specs.Rules.{recovering, IsByRuleOver};
+ghost use Rattle.interleave.specs.Recoveries.{IsLentByRecovery, IsRecoveryStep, MayRecover, OfRecovery};
+ghost use Rattle.interleave.specs.Rules.{IsByRecoverOver};
 ghost use Rattle.interleave.specs.State.{crash_result};
 ghost use Rattle.interleave.specs.Trace.{AddsReady};
 
@@ -83,8 +82,7 @@ impl Core {
         ensures issued { self.new.trace.log.issued ≡ self.old.trace.log.issued }
         ensures effects { self.new.trace.log.effects ≡ self.old.trace.log.effects }
         ensures step { IsRecoveryStep self.old (M.words memory.old) self.new (M.words memory.new) result }
-        ensures lent { OfRecovery self.old.trace.recovery (λ r.
-            M.lent memory.new ≡ lent_by_recovery self.old.shape r (M.lent memory.old)) }
+        ensures lent { IsLentByRecovery self.old.shape self.old.trace.recovery (M.lent memory.old) (M.lent memory.new) }
         ensures room { self.old.trace.room ≤ self.new.trace.room + 1 }
         ensures stays { result.answer ≡ false → self.old.trace.room ≤ self.new.trace.room }
     {
@@ -102,12 +100,12 @@ impl Core {
     ) -> Result<Noted<bool>, Refusal>
         requires holds { Holds (state_of self.old (M.words memory.old)) }
         requires asked { IfRecoveryAsked self.old.shape self.old.trace.recovery (M.lent memory.old).request }
-        ensures by_rule { IsByRuleOver recovering self.old (M.words memory.old) (answer_in result)
+        ensures by_rule { IsByRecoverOver self.old (M.words memory.old) (answer_in result)
             self.new (M.words memory.new) }
         ensures stays { answer_in result ≡ Ok false → self.old.trace.room ≤ self.new.trace.room }
         ensures holds { Holds (state_of self.new (M.words memory.new)) }
         ensures lent { M.lent memory.new
-            ≡ lent_once_recovered (answer_in result) self.old (M.words memory.old) (M.lent memory.old) }
+            ≡ lent_by_noted_recovery result self.old (M.words memory.old) (M.lent memory.old) }
         ensures noted { IsNoted (change_in result) (M.words memory.old).kept (M.words memory.new).kept }
     {
         if !self.is_down() {
@@ -124,7 +122,7 @@ impl Core {
     pub fn recover_step<M: WordMemory>(&mut self, memory: &mut M) -> Result<bool, Refusal>
         requires holds { Holds (state_of self.old (M.words memory.old)) }
         requires asked { IfRecoveryAsked self.old.shape self.old.trace.recovery (M.lent memory.old).request }
-        ensures by_rule { IsByRuleOver recovering self.old (M.words memory.old) result self.new (M.words memory.new) }
+        ensures by_rule { IsByRecoverOver self.old (M.words memory.old) result self.new (M.words memory.new) }
         ensures stays { result ≡ Ok false → self.old.trace.room ≤ self.new.trace.room }
         ensures holds { Holds (state_of self.new (M.words memory.new)) }
         ensures lent { M.lent memory.new ≡ lent_once_recovered result self.old (M.words memory.old) (M.lent memory.old) }

@@ -1,4 +1,5 @@
 //! What holds of every act on a world.
+// A law's clause begins with all that it speaks of, so some of them are longer than 120 columns.
 
 ghost use Rattle.std.specs.Prelude.{ℕ, Bool, List, length, slice_get, Ok, Some, ◌≡◌, ◌≢◌, ◌≤◌, ◌+◌, ◌++◌};
 ghost use Rattle.words.specs.declared.call.Client.{Client};

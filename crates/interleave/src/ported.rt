@@ -3,7 +3,8 @@
 
 ghost use Rattle.std.specs.Prelude.{◌≡◌, ◌≤◌, false, Ok, None};
 ghost use Rattle.interleave.specs.Asked.{HoldsOver};
-ghost use Rattle.interleave.specs.Rules.{evicting, recovering, starting, stepping, IsByAloneOver, IsByRuleOver};
+ghost use Rattle.interleave.specs.Rules.{evicting, IsByAloneOver, IsByRecoverOver, IsByRuleOver, IsByStartOver};
+ghost use Rattle.interleave.specs.Rules.{IsByStepOver};
 
 use crate::lent::Core;
 use persist::{Change, Memory};
@@ -19,7 +20,7 @@ impl Core {
         call: Call,
     ) -> Result<(), Refusal>
         requires { HoldsOver self.old memory.old }
-        ensures by_rule { IsByRuleOver (starting client number call) self.old memory.old.words result self.new memory.new.words }
+        ensures by_rule { IsByStartOver client number call self.old memory.old.words result self.new memory.new.words }
         ensures holds { HoldsOver self.new memory.new }
     {
         self.start(memory, client, number, call)
@@ -32,7 +33,7 @@ impl Core {
         client: Client,
     ) -> Result<Option<Reply>, Refusal>
         requires { HoldsOver self.old memory.old }
-        ensures by_rule { IsByRuleOver (stepping client) self.old memory.old.words result self.new memory.new.words }
+        ensures by_rule { IsByStepOver client self.old memory.old.words result self.new memory.new.words }
         ensures stays { result ≡ Ok None → self.old.trace.room ≤ self.new.trace.room }
         ensures holds { HoldsOver self.new memory.new }
     {
@@ -71,7 +72,7 @@ impl Core {
     /// As [`Core::recover_step`], through recovery's port.
     pub(crate) fn recover_step_in(&mut self, memory: &mut Memory) -> Result<bool, Refusal>
         requires { HoldsOver self.old memory.old }
-        ensures by_rule { IsByRuleOver recovering self.old memory.old.words result self.new memory.new.words }
+        ensures by_rule { IsByRecoverOver self.old memory.old.words result self.new memory.new.words }
         ensures stays { result ≡ Ok false → self.old.trace.room ≤ self.new.trace.room }
         ensures holds { HoldsOver self.new memory.new }
     {

@@ -7,10 +7,9 @@ ghost use Rattle.sound_words.specs.Told.{tells_by};
 ghost use Rattle.interleave.specs.Calls.{is_no_memory};
 ghost use Rattle.interleave.specs.Content.{content_by};
 ghost use Rattle.interleave.specs.Core.{state_of};
-ghost use Rattle.interleave.specs.Holds.{Holds};
 ghost use Rattle.interleave.specs.Ranges.{KeptFit};
 ghost use Rattle.interleave.specs.Values.{value_of_place};
-ghost use Rattle.interleave.specs.Rotation.{rotate_result, some_client_calls, BeginsAnew, IsLeftByRotate};
+ghost use Rattle.interleave.specs.Rotation.{rotate_result, some_client_calls, BeginsAnew, HoldsAnew, IsLeftByRotate};
 
 use crate::content::content;
 use crate::lent::Core;
@@ -63,8 +62,7 @@ impl Core {
         requires base { base.items ≡ content_by self.old.shape (K.kept_words kept.now) }
         ensures world { BeginsAnew (K.kept_words kept.now) self.old self.new }
         ensures room { self.old.trace.room ≤ self.new.trace.room }
-        ensures holds { (ws : Words) → ws.kept ≡ K.kept_words kept.now
-            → Holds (state_of self.old ws) → Holds (state_of self.new ws) }
+        ensures holds { HoldsAnew (K.kept_words kept.now) self.old self.new }
     {
         let told = self.tells(kept);
         self.queue.tell(copied(&told));

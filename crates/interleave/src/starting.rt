@@ -7,10 +7,9 @@ ghost use Rattle.arena.specs.Place.{IsPlace};
 ghost use Rattle.arena.specs.declared.place.Place.TheVariants.{Bump};
 ghost use Rattle.stepper.specs.Step.{after_one};
 ghost use Rattle.interleave.specs.Calls.{is_no_memory};
-ghost use Rattle.interleave.specs.Core.{call_begun_by, left_by_start, state_of};
+ghost use Rattle.interleave.specs.Core.{answer_to_start, call_begun_by, state_of, IsLeftByStart};
 ghost use Rattle.interleave.specs.Holds.{Holds};
-ghost use Rattle.interleave.specs.Rules.{starting, IsByRuleOver};
-ghost use Rattle.interleave.specs.State.{start_result_with};
+ghost use Rattle.interleave.specs.Rules.{IsByStartOver};
 ghost use Rattle.interleave.specs.Trace.{AddsCall, AddsIssued};
 
 use crate::calls::record_number;
@@ -70,10 +69,9 @@ impl Core {
         requires holds { Holds (state_of self.old (M.words memory.old)) }
         requires ready { self.old.trace.recovery ≡ None }
         requires idle { slice_get self.old.calls client.0 ≡ Some None }
-        ensures world { state_of self.new (M.words memory.new)
-            ≡ left_by_start result self.old (M.words memory.old) client number call }
-        ensures result { result
-            ≡ start_result_with (is_no_memory result) (state_of self.old (M.words memory.old)) client (Ok number) }
+        ensures world { IsLeftByStart result client number call
+            self.old (M.words memory.old) self.new (M.words memory.new) }
+        ensures result { result ≡ answer_to_start result self.old (M.words memory.old) client number }
         ensures lent { M.lent memory.new ≡ M.lent memory.old }
         ensures full { is_no_memory result ≡ true → self.old.trace.room ≡ 0 }
         ensures room { self.old.trace.room ≤ self.new.trace.room + 1 }
@@ -110,7 +108,7 @@ impl Core {
         call: Call,
     ) -> Result<(), Refusal>
         requires holds { Holds (state_of self.old (M.words memory.old)) }
-        ensures by_rule { IsByRuleOver (starting client number call) self.old (M.words memory.old) result
+        ensures by_rule { IsByStartOver client number call self.old (M.words memory.old) result
             self.new (M.words memory.new) }
         ensures lent { M.lent memory.new ≡ M.lent memory.old }
         ensures holds { Holds (state_of self.new (M.words memory.new)) }

@@ -6,7 +6,7 @@ ghost use Rattle.persist.specs.Noted.{answer_in, change_in, IsNoted};
 ghost use Rattle.arena.specs.Layout.{size_of};
 ghost use Rattle.stepper.specs.Step.{IsAskedFor};
 ghost use Rattle.helping.specs.Table.{access_of, IsPoint};
-ghost use Rattle.interleave.specs.Asked.{lent_once_stepped, IfCallAsked};
+ghost use Rattle.interleave.specs.Asked.{lent_by_noted_step, lent_once_stepped, IfCallAsked};
 ghost use Rattle.interleave.specs.Calls.{answer_of, went_on_to_nothing, GoesOnTo, OfCall};
 ghost use Rattle.interleave.specs.Core.{core_with_effects, state_of, waiting_of};
 ghost use Rattle.interleave.specs.Effects.{AreInSequence};
@@ -14,8 +14,8 @@ ghost use Rattle.interleave.specs.Holds.{Holds};
 ghost use Rattle.interleave.specs.Changes.{effects_by_step, looking};
 ghost use Rattle.interleave.specs.Points.{change_by_op, found_by_op, lent_by_op, next_by_op, words_by_op, FindsInRange};
 ghost use Rattle.interleave.specs.Ranges.{WordsFit, IsSafe};
-ghost use Rattle.interleave.specs.Rules.{stepping, IsByRuleOver};
-ghost use Rattle.interleave.specs.Stepped.{HasRoomToStep, IsCallStep};
+ghost use Rattle.interleave.specs.Rules.{IsByStepOver};
+ghost use Rattle.interleave.specs.Stepped.{HasRoomToStep, IsCallStep, IsLentByCall};
 ghost use Rattle.interleave.specs.Trace.{AddsAnswer, HaveRoom};
 
 use crate::lent::Core;
@@ -129,8 +129,7 @@ impl Core {
         requires effects { OfCall self.old.calls client (λ u. HasRoomToStep self.old (M.words memory.old) u) }
         requires room { 0 < self.old.trace.room }
         ensures step { IsCallStep client self.old (M.words memory.old) self.new (M.words memory.new) result }
-        ensures lent { OfCall self.old.calls client (λ u.
-            M.lent memory.new ≡ lent_by_op self.old.shape u.op (M.lent memory.old)) }
+        ensures lent { IsLentByCall client self.old (M.lent memory.old) (M.lent memory.new) }
         ensures shape { self.new.shape ≡ self.old.shape }
         ensures queue { self.new.queue ≡ self.old.queue }
         ensures base { self.new.trace.base ≡ self.old.trace.base }
@@ -161,12 +160,12 @@ impl Core {
         requires holds { Holds (state_of self.old (M.words memory.old)) }
         requires asked { IfCallAsked self.old.shape (slice_index_or self.old.calls client.0 None)
             (M.lent memory.old).request }
-        ensures by_rule { IsByRuleOver (stepping client) self.old (M.words memory.old) (answer_in result)
+        ensures by_rule { IsByStepOver client self.old (M.words memory.old) (answer_in result)
             self.new (M.words memory.new) }
         ensures stays { answer_in result ≡ Ok None → self.old.trace.room ≤ self.new.trace.room }
         ensures holds { Holds (state_of self.new (M.words memory.new)) }
         ensures lent { M.lent memory.new
-            ≡ lent_once_stepped (answer_in result) client self.old (M.words memory.old) (M.lent memory.old) }
+            ≡ lent_by_noted_step result client self.old (M.words memory.old) (M.lent memory.old) }
         ensures noted { IsNoted (change_in result) (M.words memory.old).kept (M.words memory.new).kept }
     {
         let begun = &self.waiting(client)?.begun;
@@ -193,8 +192,7 @@ impl Core {
         requires holds { Holds (state_of self.old (M.words memory.old)) }
         requires asked { IfCallAsked self.old.shape (slice_index_or self.old.calls client.0 None)
             (M.lent memory.old).request }
-        ensures by_rule { IsByRuleOver (stepping client) self.old (M.words memory.old) result
-            self.new (M.words memory.new) }
+        ensures by_rule { IsByStepOver client self.old (M.words memory.old) result self.new (M.words memory.new) }
         ensures stays { result ≡ Ok None → self.old.trace.room ≤ self.new.trace.room }
         ensures holds { Holds (state_of self.new (M.words memory.new)) }
         ensures lent { M.lent memory.new

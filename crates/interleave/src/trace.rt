@@ -8,8 +8,8 @@ ghost use Rattle.recover.specs.Table.{boot_recovery};
 ghost use Rattle.protocol.specs.Rotated.{empty_trace};
 ghost use Rattle.interleave.specs.Asked.{IfRecoveryAsked};
 ghost use Rattle.interleave.specs.Effects.{AreInSequence};
-ghost use Rattle.interleave.specs.Points.{change_by_recovery, lent_by_recovery, next_by_recovery, words_by_recovery};
-ghost use Rattle.interleave.specs.Recoveries.{HasReached, MayRecover, OfRecovery};
+ghost use Rattle.interleave.specs.Recoveries.{IsChangeByRecovery, IsLeftByRecovery, IsLentByRecovery};
+ghost use Rattle.interleave.specs.Recoveries.{IsNextByRecovery, MayRecover, OfRecovery};
 ghost use Rattle.interleave.specs.Trace.{effects_once_looked, effects_once_taken, with_effects, AddsCall, AddsIssued, AddsReady, HaveRoom};
 
 use crate::effects::{forget, settle};
@@ -206,14 +206,11 @@ impl Trace {
         ensures base { self.new.base ≡ self.old.base }
         ensures told { self.new.told ≡ self.old.told }
         ensures log { self.new.log ≡ self.old.log }
-        ensures words { OfRecovery self.old.recovery (λ r.
-            M.words memory.new ≡ words_by_recovery layout.now r (M.words memory.old)) }
-        ensures lent { OfRecovery self.old.recovery (λ r.
-            M.lent memory.new ≡ lent_by_recovery layout.now r (M.lent memory.old)) }
-        ensures reached { OfRecovery self.old.recovery (λ r.
-            HasReached result.answer self.new.recovery (next_by_recovery layout.now r (M.words memory.old))) }
-        ensures change { OfRecovery self.old.recovery (λ r.
-            result.change ≡ change_by_recovery layout.now r (M.words memory.old)) }
+        ensures words { IsLeftByRecovery layout.now self.old.recovery (M.words memory.old) (M.words memory.new) }
+        ensures lent { IsLentByRecovery layout.now self.old.recovery (M.lent memory.old) (M.lent memory.new) }
+        ensures reached { IsNextByRecovery layout.now self.old.recovery (M.words memory.old)
+            result.answer self.new.recovery }
+        ensures change { IsChangeByRecovery layout.now self.old.recovery (M.words memory.old) result.change }
         ensures room { self.new.room ≡ self.old.room }
     {
         match self.recovery.as_mut() {

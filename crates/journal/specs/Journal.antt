@@ -54,6 +54,10 @@ end_behind end batch = record { key = end.key; sum = frame_sum end.key end.sum b
 abbrev pub MayNotBegin : List ℕ → Type 0
 MayNotBegin words = (length words ≡ 0) ⊎ (MAX_WORDS < length words)
 
+-- why none begins on them
+abbrev pub MayRefuseBase : List ℕ → Refusal → Type 0
+MayRefuseBase words refusal = (refusal ≡ BadCount) × MayNotBegin words ⊎ (refusal ≡ NoMemory) × AreWords words
+
 -- no frame has these: there are none, or there are too many
 abbrev pub AreNoBatch : List Change → Type 0
 AreNoBatch changes = (length changes ≡ 0) ⊎ (MAX_CHANGES < length changes)

@@ -1,14 +1,14 @@
 -- What bytes are read as: the words that a journal leaves, or the first that is wrong with its head.
-use Rattle.std.specs.Prelude.{◌≡◌, ℕ, zero, suc, ◌+◌, ◌*◌, ◌<◌, ◌≤◌, ◌==◌, ◌||◌, ◌&&◌, not, nat_lt, nat_le, Bool, true, if◌then◌else◌, List, ◌++◌, length, take, drop, slice_set, fold, Result, Ok, Err}
+use Rattle.std.specs.Prelude.{◌≡◌, ℕ, zero, suc, ◌+◌, ◌*◌, ◌<◌, ◌≤◌, ◌==◌, ◌||◌, ◌&&◌, not, nat_lt, nat_le, Bool, true, if◌then◌else◌, List, ◌++◌, length, take, drop, slice_set, fold, Result, Ok, Err, ◌⊎◌, IsOk}
 use Rattle.std.specs.Int.{w32, w64, from_le_bytes}
 use Rattle.std.specs.List.{list_all}
 use Rattle.std.specs.Simd.{first_chunks}
 use Rattle.std.specs.Str.{bytes_eq}
-use Rattle.words.specs.declared.refusal.Refusal.TheVariants.{BadMagic, BadCount, Truncated}
+use Rattle.words.specs.declared.refusal.Refusal.TheVariants.{BadMagic, BadCount, NoMemory, Truncated}
 use Rattle.persist.specs.Image.{words_in, image_size}
 use Rattle.persist.specs.Image as image
 use Rattle.persist.specs.declared.memory.TheConstants.{MAX_WORDS}
-use Rattle.persist.specs.declared.image.TheConstants.{HEADER_BYTES}
+use Rattle.persist.specs.declared.image.TheConstants.{HEADER_BYTES, NUMBER_BYTES}
 use Rattle.journal.specs.declared.format.TheConstants.{MAGIC_BYTES, KEY_BYTES, SUM_BYTES, FRONT_BYTES, CHANGE_BYTES, MAX_CHANGES}
 use Rattle.journal.specs.declared.fault.Fault.{Fault}
 use Rattle.journal.specs.declared.fault.Fault.TheVariants.{Refused, BadSum}
@@ -122,6 +122,10 @@ sum_at count = key_at count + KEY_BYTES
 abbrev pub head_size : ℕ → ℕ
 head_size count = sum_at count + SUM_BYTES
 
+-- the bytes of each of its words
+abbrev pub word_bytes : ℕ → List ℕ → List (List ℕ)
+word_bytes count bytes = first_chunks NUMBER_BYTES count (drop HEADER_BYTES (drop MAGIC_BYTES bytes))
+
 -- what a head says, and what follows it
 pub record Head : Type 0 where
   pub words : List ℕ
@@ -173,6 +177,10 @@ read_on (Ok head) = Ok (read_of head.key (replay head.key head.sum head.words he
 -- what bytes are read as
 abbrev pub reading : List ℕ → Result Read Fault
 reading bytes = read_on (head_reading bytes)
+
+-- why nothing is read of them: they are refused so; or they are not, and there is no memory
+abbrev pub IsWhyUnread : List ℕ → Fault → Type 0
+IsWhyUnread bytes fault = (reading bytes ≡ Err fault) ⊎ (fault ≡ Refused NoMemory) × IsOk (reading bytes)
 
 -- they are read as these words under this key, and so many bytes are cut off
 abbrev pub ReadsAs : List ℕ → List ℕ → ℕ → List ℕ → Type 0

@@ -2,8 +2,7 @@
 
 ghost use Rattle.std.specs.Prelude.{◌≡◌, ◌+◌, ◌<◌, ◌≤◌, length, map, drop, take, Ok, Err, IfOk, IfErr, IfSome, IfNone};
 ghost use Rattle.std.specs.Int.{w64, from_le_bytes};
-ghost use Rattle.std.specs.Simd.{first_chunks};
-ghost use Rattle.journal.specs.Reading.{begins_as_journal, has_its_sum, head_reading, head_size, key_at, sum_at, words_count};
+ghost use Rattle.journal.specs.Reading.{begins_as_journal, has_its_sum, head_reading, head_size, key_at, sum_at, words_count, word_bytes};
 
 use crate::checksum::checksum;
 use crate::fault::Fault;
@@ -45,8 +44,7 @@ fn split_parts(count: usize, bytes: &[u8]) -> Option<Head<'_>>
     requires { count ≤ MAX_WORDS }
     ensures short { IfNone result (length bytes.now < head_size count) }
     ensures long { IfSome result (λ head. head_size count ≤ length bytes.now) }
-    ensures words { IfSome result (λ head. head.words.now
-        ≡ first_chunks NUMBER_BYTES count (drop HEADER_BYTES (drop MAGIC_BYTES bytes.now))) }
+    ensures words { IfSome result (λ head. head.words.now ≡ word_bytes count bytes.now) }
     ensures key { IfSome result (λ head. head.key.now ≡ take KEY_BYTES (drop (key_at count) bytes.now)) }
     ensures sum { IfSome result (λ head. head.sum.now ≡ take SUM_BYTES (drop (sum_at count) bytes.now)) }
     ensures rest { IfSome result (λ head. head.rest.now ≡ drop (head_size count) bytes.now) }
@@ -67,6 +65,7 @@ fn split_parts(count: usize, bytes: &[u8]) -> Option<Head<'_>>
 
 /// The head that the bytes begin with, or the first that is wrong with it.
 pub(crate) fn split_head(bytes: &[u8]) -> Result<Head<'_>, Fault>
+    // Long, since it names each part.
     ensures ok { IfOk result (λ head. head_reading bytes.now ≡ Ok (record {
       words = map (from_le_bytes w64) head.words.now;
       key = head.key.now;

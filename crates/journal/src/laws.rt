@@ -1,4 +1,5 @@
 //! What holds of every journal.
+// A law's clause begins with all that it speaks of, so some of them are longer than 120 columns.
 
 ghost use Rattle.std.specs.Prelude.{◌≡◌, ℕ, List, Ok, [], ◌∷◌, ◌++◌, length, replicate};
 ghost use Rattle.persist.specs.Image.{AreBytes};

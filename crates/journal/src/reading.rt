@@ -1,8 +1,8 @@
 //! What bytes are read as.
 
-ghost use Rattle.std.specs.Prelude.{◌≡◌, ◌⊎◌, ◌≤◌, ◌<◌, ◌↔◌, length, map, Ok, Err, IsOk, IfOk, IfErr, IsTrue};
+ghost use Rattle.std.specs.Prelude.{◌≡◌, ◌≤◌, ◌<◌, ◌↔◌, length, map, Ok, Err, IfOk, IfErr, IsTrue};
 ghost use Rattle.std.specs.Int.{w64, from_le_bytes};
-ghost use Rattle.journal.specs.Reading.{HidesKept, ReadsAs, reading};
+ghost use Rattle.journal.specs.Reading.{HidesKept, ReadsAs, reading, IsWhyUnread};
 
 use crate::fault::Fault;
 use crate::format::KEY_BYTES;
@@ -42,8 +42,7 @@ fn numbers(alloc: Global, words: &[[u8; NUMBER_BYTES]]) -> Result<Vec<u64>, Allo
 /// the last whole frame is no reason to refuse: [`hides_kept_frame`] tells whether it may be left out.
 pub fn read(alloc: Global, bytes: &[u8]) -> Result<Reading, Fault>
     ensures read { IfOk result (λ r. ReadsAs r.key r.words.items r.cut bytes.now) }
-    ensures errors { IfErr result (λ e. (reading bytes.now ≡ Err e)
-        ⊎ (e ≡ Fault.Refused Refusal.NoMemory) × IsOk (reading bytes.now)) }
+    ensures errors { IfErr result (IsWhyUnread bytes.now) }
 {
     let head = split_head(bytes)?;
     let Ok(mut words) = numbers(alloc, head.words) else {

@@ -1,6 +1,6 @@
 //! A journal's head, and its frames, as bytes.
 
-ghost use Rattle.std.specs.Prelude.{◌≡◌, ◌⊎◌, ◌^◌, ◌≤◌, ◌++◌, ◌↔◌, ◌<◌, [], All, length, take, IsTrue, IfOk, IfErr, OnOk, OnErr};
+ghost use Rattle.std.specs.Prelude.{◌≡◌, ◌^◌, ◌≤◌, ◌++◌, ◌↔◌, ◌<◌, [], All, length, take, IsTrue, IfOk, IfErr, OnOk, OnErr};
 ghost use Rattle.journal.specs.Frame.{batch_of, change_bytes, frame_of, frame_sum, front_of};
 ghost use Rattle.journal.specs.Journal.{AreOfWords, head_front, head_of};
 
@@ -116,7 +116,7 @@ impl Model for Writer {
 
 impl Writer {
     ghost use Rattle.journal.specs.Frame.{IsBatchIn};
-    ghost use Rattle.journal.specs.Journal.{MayNotBegin, MayRefuseFrame, end_behind, end_of, frame_behind};
+    ghost use Rattle.journal.specs.Journal.{MayNotBegin, MayRefuseBase, MayRefuseFrame, end_behind, end_of, frame_behind};
     ghost use Rattle.persist.specs.Image.{AreWords};
 
     /// The head of a journal of these words, as bytes, and where it goes on. It is refused where there is no word, or
@@ -130,8 +130,7 @@ impl Writer {
         ensures head { IfOk result (λ begun. begun.0.items ≡ head_of key.now base.now) }
         ensures end { IfOk result (λ begun. begun.1 ≡ end_of key.now base.now []) }
         ensures words { IfOk result (λ begun. AreWords base.now) }
-        ensures errors { IfErr result (λ e. (e ≡ Refusal.BadCount) × MayNotBegin base.now
-            ⊎ (e ≡ Refusal.NoMemory) × AreWords base.now) }
+        ensures errors { IfErr result (MayRefuseBase base.now) }
     {
         if base.is_empty() || base.len() > MAX_WORDS {
             return Err(Refusal::BadCount);

@@ -34,6 +34,7 @@ fn add_slot(
     requires room { broker_size_in OfValues layout.now ≤ length memory.now.words.cached }
     requires kept { broker_size_in OfValues layout.now ≤ length memory.now.words.kept }
     requires sound { IfSome queue.now (HasSoundValues layout.now slot.0 memory.now.words.kept) }
+    // Long, since it names the words of before, the slot's queue and its block.
     ensures { OnOk result (words.new.items ≡ words.old.items
         ++ slot_migrated layout.now queue.now (old_block layout.now slot.0 memory.now.words.kept)) }
 {

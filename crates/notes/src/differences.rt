@@ -14,6 +14,7 @@ pub(crate) fn add_differences<W: KeptWords>(
     changes: &mut Vec<Change>,
 ) -> bool
     requires { from + length (W.kept_words words.now) ≤ length memory.now.words.kept }
+    // Long, since it names the changes, what is written, where, and over what.
     ensures noted { result ≡ true → HasNotedWritten changes.old.items changes.new.items
         from (W.kept_words words.now) memory.now.words.kept }
     ensures before { take (vec_len changes.old) changes.new.items ≡ changes.old.items }

@@ -1,4 +1,5 @@
 //! What noted changes make of words.
+// A law's clause begins with all that it speaks of, so some of them are longer than 120 columns.
 
 ghost use Rattle.std.specs.Prelude.{◌≡◌, ◌++◌, [], List, Option, ℕ};
 ghost use Rattle.persist.specs.Noted.{changes_in, IsNoted};

@@ -100,6 +100,7 @@ impl Notes {
         more: usize,
     ) -> Result<(), AllocError>
         requires { from + length (W.kept_words words.now) ≤ length memory.now.words.kept }
+        // Long, since it names the changes, what is written, where, and over what.
         ensures noted { OnOk result (HasNotedWritten self.old.changes self.new.changes
             from (W.kept_words words.now) memory.now.words.kept) }
         ensures promised { OnOk result (self.new.promised ≡ more) }

@@ -1,11 +1,11 @@
 -- Images: the kept words of a memory as bytes, and what bytes are read as.
-use Rattle.std.specs.Prelude.{ℕ, ◌+◌, ◌*◌, ◌^◌, ◌<◌, ◌≤◌, ◌==◌, ◌||◌, not, nat_lt, Bool, if◌then◌else◌, List, ◌++◌, length, take, drop, map, codes, All, Result, Ok, Err}
+use Rattle.std.specs.Prelude.{ℕ, ◌+◌, ◌*◌, ◌^◌, ◌<◌, ◌≤◌, ◌==◌, ◌||◌, not, nat_lt, Bool, if◌then◌else◌, List, ◌++◌, length, take, drop, map, codes, All, Result, Ok, Err, IsOk, ◌⊎◌, ◌≡◌}
 use Rattle.std.specs.Int.{w64, from_le_bytes, to_le_bytes}
 use Rattle.std.specs.List.{flat_map}
 use Rattle.std.specs.Simd.{first_chunks}
 use Rattle.std.specs.Str.{bytes_eq}
 use Rattle.words.specs.declared.refusal.Refusal.{Refusal}
-use Rattle.words.specs.declared.refusal.Refusal.TheVariants.{BadMagic, BadCount, Truncated, TrailingBytes}
+use Rattle.words.specs.declared.refusal.Refusal.TheVariants.{BadMagic, BadCount, NoMemory, Truncated, TrailingBytes}
 use Rattle.persist.specs.declared.memory.TheConstants.{MAX_WORDS}
 use Rattle.persist.specs.declared.image.TheConstants.{MAGIC_BYTES, HEADER_BYTES, NUMBER_BYTES}
 
@@ -71,3 +71,7 @@ reading_v1 bytes = reading_by magic_v1 bytes
 -- whether bytes begin as images of the first form did
 abbrev pub has_first_form : List ℕ → Bool
 has_first_form bytes = bytes_eq (take MAGIC_BYTES bytes) magic_v1
+
+-- why nothing is read of bytes that are read as this: they are refused so; or they are not, and there is no memory
+abbrev pub IsWhyUnread : Result (List ℕ) Refusal → Refusal → Type 0
+IsWhyUnread read refusal = (read ≡ Err refusal) ⊎ (refusal ≡ NoMemory) × IsOk read

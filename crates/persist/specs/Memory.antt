@@ -1,6 +1,6 @@
 -- The memory model: words with a cached and a kept value, ports through which flushes are asked for, and what becomes
 -- of both.
-use Rattle.std.specs.Prelude.{◌≡◌, ℕ, ◌+◌, ◌-◌, Bool, ◌&&◌, min, nat_le, nat_lt, List, [], ◌++◌, length, Option, Some, None, take, drop, replicate, slice_index, slice_index_or, slice_set, if◌then◌else◌, ◌==◌}
+use Rattle.std.specs.Prelude.{◌≡◌, ℕ, ◌+◌, ◌-◌, Bool, ◌&&◌, min, nat_le, nat_lt, List, [], ◌++◌, length, Option, Some, None, take, drop, replicate, slice_index, slice_index_or, slice_set, if◌then◌else◌, ◌==◌, ◌<◌, ◌≤◌, ◌⊎◌}
 
 -- two values for each word, and how many accesses there were
 pub record Words : Type 0 where
@@ -169,6 +169,17 @@ lent_part lender port from len m = record {
     others = slice_set m.asked port None;
   };
 }
+
+-- there is a word of this number, or none
+abbrev pub HasWord : Words → ℕ → Type 0
+HasWord ws word = word < length ws.cached
+
+abbrev pub LacksWord : Words → ℕ → Type 0
+LacksWord ws word = length ws.cached ≤ word
+
+-- no part of the words: it is empty, or not inside
+abbrev pub IsNoPart : ℕ → ℕ → Words → Type 0
+IsNoPart from len ws = (len ≡ 0) ⊎ (length ws.cached < from + len)
 
 -- the words outside a part are as they were
 pub record IsSameOutside (from len : ℕ) (old new : Words) : Type 0 where

@@ -1,7 +1,7 @@
 //! What a step machine sees of a memory, and what an inspector does.
 
-ghost use Rattle.std.specs.Prelude.{◌≡◌, ◌<◌, ◌≤◌, length, slice_index, Ok, Err, ℕ, List};
-ghost use Rattle.persist.specs.Memory.{Lent, Words, Load, Store, Cas, Flush, after, after_fence, asking, lent_after, request_after_fence, words_after_eviction};
+ghost use Rattle.std.specs.Prelude.{◌≡◌, ◌<◌, length, slice_index, Ok, Err, ℕ, List};
+ghost use Rattle.persist.specs.Memory.{Lent, Words, Load, Store, Cas, Flush, after, after_fence, asking, lent_after, request_after_fence, words_after_eviction, HasWord, LacksWord};
 ghost use Rattle.persist.specs.Changes.{change_of, fence_result, swap_of};
 
 use words::Refusal;
@@ -50,42 +50,42 @@ pub trait WordMemory {
 
     /// The cached value of a word. It is refused where there is no such word (NoWord).
     fn load(&mut self, word: usize) -> Result<u64, Refusal>
-        ensures found { word < length (words self.old).cached → result ≡ Ok (slice_index (words self.old).cached word) }
-        ensures done { word < length (words self.old).cached → words self.new ≡ after (Load word) (words self.old) }
-        ensures refused { length (words self.old).cached ≤ word → result ≡ Err Refusal.NoWord }
-        ensures same { length (words self.old).cached ≤ word → words self.new ≡ words self.old }
+        ensures found { HasWord (words self.old) word → result ≡ Ok (slice_index (words self.old).cached word) }
+        ensures done { HasWord (words self.old) word → words self.new ≡ after (Load word) (words self.old) }
+        ensures refused { LacksWord (words self.old) word → result ≡ Err Refusal.NoWord }
+        ensures same { LacksWord (words self.old) word → words self.new ≡ words self.old }
         ensures lent { lent self.new ≡ lent self.old };
 
     /// Makes this the cached value of a word. It is refused where there is no such word (NoWord).
     fn store(&mut self, word: usize, value: u64) -> Result<(), Refusal>
-        ensures ok { word < length (words self.old).cached → result ≡ Ok tt }
-        ensures done { word < length (words self.old).cached
+        ensures ok { HasWord (words self.old) word → result ≡ Ok tt }
+        ensures done { HasWord (words self.old) word
             → words self.new ≡ after (Store word value) (words self.old) }
-        ensures refused { length (words self.old).cached ≤ word → result ≡ Err Refusal.NoWord }
-        ensures same { length (words self.old).cached ≤ word → words self.new ≡ words self.old }
+        ensures refused { LacksWord (words self.old) word → result ≡ Err Refusal.NoWord }
+        ensures same { LacksWord (words self.old) word → words self.new ≡ words self.old }
         ensures lent { lent self.new ≡ lent self.old };
 
     /// Makes `new` the cached value of a word where it is `old`, and answers whether it was. It is refused where there
     /// is no such word (NoWord).
     fn cas(&mut self, word: usize, old: u64, new: u64) -> Result<Swap, Refusal>
-        ensures swap { word < length (words self.old).cached → result ≡ Ok (swap_of (words self.old) word old) }
-        ensures done { word < length (words self.old).cached
+        ensures swap { HasWord (words self.old) word → result ≡ Ok (swap_of (words self.old) word old) }
+        ensures done { HasWord (words self.old) word
             → words self.new ≡ after (Cas word old new) (words self.old) }
-        ensures refused { length (words self.old).cached ≤ word → result ≡ Err Refusal.NoWord }
-        ensures same { length (words self.old).cached ≤ word → words self.new ≡ words self.old }
+        ensures refused { LacksWord (words self.old) word → result ≡ Err Refusal.NoWord }
+        ensures same { LacksWord (words self.old) word → words self.new ≡ words self.old }
         ensures lent { lent self.new ≡ lent self.old };
 
     /// Asks that the word be kept, in place of an earlier request through this port. No word changes: the next fence
     /// through the port keeps it. It is refused where there is no such word (NoWord), and then an earlier request
     /// stays.
     fn flush(&mut self, word: usize) -> Result<(), Refusal>
-        ensures ok { word < length (words self.old).cached → result ≡ Ok tt }
-        ensures done { word < length (words self.old).cached → words self.new ≡ after (Flush word) (words self.old) }
-        ensures asked { word < length (words self.old).cached
+        ensures ok { HasWord (words self.old) word → result ≡ Ok tt }
+        ensures done { HasWord (words self.old) word → words self.new ≡ after (Flush word) (words self.old) }
+        ensures asked { HasWord (words self.old) word
             → lent self.new ≡ lent_after (Flush word) (lent self.old) }
-        ensures refused { length (words self.old).cached ≤ word → result ≡ Err Refusal.NoWord }
-        ensures same { length (words self.old).cached ≤ word → words self.new ≡ words self.old }
-        ensures lent { length (words self.old).cached ≤ word → lent self.new ≡ lent self.old };
+        ensures refused { LacksWord (words self.old) word → result ≡ Err Refusal.NoWord }
+        ensures same { LacksWord (words self.old) word → words self.new ≡ words self.old }
+        ensures lent { LacksWord (words self.old) word → lent self.new ≡ lent self.old };
 
     /// Completes the port's request: it keeps the value that the word has cached now, and answers the change, where the
     /// kept value changed. The port has no request then. Without one no word changes, and it is an access all the same.
@@ -118,12 +118,12 @@ pub trait EvictableWords: WordMemory + KeptWords {
     /// this word. It answers the change, where the kept value changed, and is refused where there is no such word
     /// (NoWord).
     fn evict(&mut self, word: usize) -> Result<Option<Change>, Refusal>
-        ensures change { word < length (Self.words self.old).cached
+        ensures change { HasWord (Self.words self.old) word
             → result ≡ Ok (change_of (Self.words self.old) word) }
-        ensures done { word < length (Self.words self.old).cached
-            → Self.words self.new ≡ words_after_eviction word (Self.words self.old) }
-        ensures refused { length (Self.words self.old).cached ≤ word → result ≡ Err Refusal.NoWord }
-        ensures same { length (Self.words self.old).cached ≤ word → Self.words self.new ≡ Self.words self.old }
+        ensures done { let ws = Self.words self.old in
+            HasWord ws word → Self.words self.new ≡ words_after_eviction word ws }
+        ensures refused { LacksWord (Self.words self.old) word → result ≡ Err Refusal.NoWord }
+        ensures same { LacksWord (Self.words self.old) word → Self.words self.new ≡ Self.words self.old }
         ensures lent { Self.lent self.new ≡ Self.lent self.old };
 
     /// The kept values for inspection are those of the words.

@@ -1,9 +1,9 @@
 //! Images of a memory: its kept words as bytes.
 
-ghost use Rattle.std.specs.Prelude.{◌≡◌, ◌⊎◌, ◌^◌, ◌<◌, ◌≤◌, length, drop, map, All, Ok, Err, IsOk, IfOk, IfErr, IfSome, IfNone};
+ghost use Rattle.std.specs.Prelude.{◌≡◌, ◌^◌, ◌<◌, ◌≤◌, length, drop, map, All, Ok, Err, IfOk, IfErr, IfSome, IfNone};
 ghost use Rattle.std.specs.Int.{w64, from_le_bytes};
 ghost use Rattle.persist.specs.Memory.{words_at_rest, IsUnasked};
-ghost use Rattle.persist.specs.Image.{image_of, image_by, magic_v1, begins_with, has_first_form, count_in, reading, reading_by, reading_v1};
+ghost use Rattle.persist.specs.Image.{image_of, image_by, magic_v1, begins_with, has_first_form, count_in, reading, reading_by, reading_v1, IsWhyUnread};
 
 use crate::memory::{MAX_WORDS, Memory};
 use std::alloc::{AllocError, Global};
@@ -132,8 +132,7 @@ impl Memory {
         ensures at_rest { IfOk result (λ m. m.words ≡ words_at_rest m.words.kept) }
         ensures unasked { IfOk result IsUnasked }
         ensures image { IfOk result (λ m. image_of m.words.kept ≡ bytes.now) }
-        ensures errors { IfErr result (λ e. (reading bytes.now ≡ Err e)
-            ⊎ (e ≡ Refusal.NoMemory) × IsOk (reading bytes.now)) }
+        ensures errors { IfErr result (IsWhyUnread (reading bytes.now)) }
     {
         Memory::read(alloc, &MAGIC, bytes)
     }
@@ -145,8 +144,7 @@ impl Memory {
         ensures at_rest { IfOk result (λ m. m.words ≡ words_at_rest m.words.kept) }
         ensures unasked { IfOk result IsUnasked }
         ensures image { IfOk result (λ m. image_by magic_v1 m.words.kept ≡ bytes.now) }
-        ensures errors { IfErr result (λ e. (reading_v1 bytes.now ≡ Err e)
-            ⊎ (e ≡ Refusal.NoMemory) × IsOk (reading_v1 bytes.now)) }
+        ensures errors { IfErr result (IsWhyUnread (reading_v1 bytes.now)) }
     {
         Memory::read(alloc, &MAGIC_V1, bytes)
     }
@@ -158,8 +156,7 @@ impl Memory {
         ensures at_rest { IfOk result (λ m. m.words ≡ words_at_rest m.words.kept) }
         ensures unasked { IfOk result IsUnasked }
         ensures image { IfOk result (λ m. image_by first.now m.words.kept ≡ bytes.now) }
-        ensures errors { IfErr result (λ e. (reading_by first.now bytes.now ≡ Err e)
-            ⊎ (e ≡ Refusal.NoMemory) × IsOk (reading_by first.now bytes.now)) }
+        ensures errors { IfErr result (IsWhyUnread (reading_by first.now bytes.now)) }
     {
         let words = words_of(first, bytes)?;
         let Ok(kept) = numbers(alloc, words) else {

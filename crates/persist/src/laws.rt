@@ -1,4 +1,5 @@
 //! What holds of every image of a memory, and of every change of its kept words.
+// A law's clause begins with all that it speaks of, so some of them are longer than 120 columns.
 
 ghost use Rattle.std.specs.Prelude.{◌≡◌, ◌+◌, ◌++◌, ◌≤◌, ℕ, List, Ok, Option, length};
 ghost use Rattle.persist.specs.Changes.{change_of};

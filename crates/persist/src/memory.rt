@@ -2,7 +2,7 @@
 
 ghost use Rattle.std.specs.Prelude.{ℕ, ◌≡◌, ◌↔◌, ◌⊎◌, ◌+◌, ◌<◌, ◌≤◌, min, vec_len, length, replicate, take, drop, None, Ok, Err, IfOk, IfErr, IfSome, slice_index, slice_index_or, slice_set};
 ghost use Rattle.std.specs.Borrow.{sem, RestsIfErr};
-ghost use Rattle.persist.specs.Memory.{asked_through, lent_part, lent_whole, words_after_access, words_after_store, words_after_eviction, words_after_crash, words_in, overwritten, zero_words, words_at_rest, IsUnasked};
+ghost use Rattle.persist.specs.Memory.{asked_through, lent_part, lent_whole, words_after_access, words_after_store, words_after_eviction, words_after_crash, words_in, overwritten, zero_words, words_at_rest, IsUnasked, IsNoPart};
 ghost use Rattle.persist.specs.contracts.memory.Memory.{the_row};
 ghost use Rattle.persist.specs.ChangeList.{IsEntryOf, IsGapFor};
 ghost use Rattle.persist.specs.Changes.{change_of, differences};
@@ -213,8 +213,7 @@ impl Memory {
         ensures words { IfOk result (λ w. window_words w ≡ words_in from len self.old.words) }
         ensures lent { IfOk result (λ w. window_lent w ≡ lent_part self.entry.ghost_name port from len self.old) }
         ensures no_port { result ≡ Err Refusal.NoClient ↔ PORTS ≤ port }
-        ensures no_word { result ≡ Err Refusal.NoWord ↔
-            (port < PORTS) × ((len ≡ 0) ⊎ (length self.old.words.cached < from + len)) }
+        ensures no_word { result ≡ Err Refusal.NoWord ↔ (port < PORTS) × IsNoPart from len self.old.words }
         ensures errors { IfErr result (λ e. (e ≡ Refusal.NoClient) ⊎ (e ≡ Refusal.NoWord)) }
     {
         let size = self.kept.len();

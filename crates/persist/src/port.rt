@@ -18,12 +18,13 @@ pub struct Port<'a> {
 }
 
 impl<'a> Port<'a> {
+    ghost use Rattle.persist.specs.Lent.{port_lent};
+
     pub(crate) fn new(memory: &'a mut Memory, port: usize) -> Port<'a>
         requires { port < PORTS }
         ensures same_memory { result.memory.ghost_name ≡ memory.entry.ghost_name }
         ensures words { result.memory.now.words ≡ memory.old.words }
-        ensures lent { lent_whole result.memory.ghost_name result.port result.memory.now
-            ≡ lent_whole memory.entry.ghost_name port memory.old }
+        ensures lent { port_lent result ≡ lent_whole memory.entry.ghost_name port memory.old }
     {
         Port { memory, port }
     }

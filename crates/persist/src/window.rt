@@ -53,6 +53,8 @@ fn numbered_from(change: Option<Change>, from: usize) -> Option<Change>
 }
 
 impl<'a> Window<'a> {
+    ghost use Rattle.persist.specs.Lent.{window_lent};
+
     pub(crate) fn new(memory: &'a mut Memory, port: usize, from: usize, len: usize) -> Window<'a>
         requires real { port < PORTS }
         requires inside { from + len ≤ length memory.old.words.cached }
@@ -60,8 +62,7 @@ impl<'a> Window<'a> {
         requires same { length memory.old.words.kept ≡ length memory.old.words.cached }
         ensures same_memory { result.memory.ghost_name ≡ memory.entry.ghost_name }
         ensures words { words_in result.from result.len result.memory.now.words ≡ words_in from len memory.old.words }
-        ensures lent { lent_part result.memory.ghost_name result.port result.from result.len result.memory.now
-            ≡ lent_part memory.entry.ghost_name port from len memory.old }
+        ensures lent { window_lent result ≡ lent_part memory.entry.ghost_name port from len memory.old }
     {
         Window {
             memory,

@@ -1,4 +1,5 @@
 //! What holds after any acts, crashes and evictions among them.
+// A law's clause begins with all that it speaks of, so some of them are longer than 120 columns.
 
 ghost use Rattle.std.specs.Prelude.{◌≡◌, List, None, ℕ, replicate};
 ghost use Rattle.arena.specs.Content.{chain_of, kept_content};

@@ -2,7 +2,7 @@
 
 ghost use Rattle.std.specs.Prelude.{◌≡◌, ◌<◌, ◌≤◌, length};
 ghost use Rattle.arena.specs.Layout.{size_of};
-ghost use Rattle.stepper.specs.Step.{after_one, change_by, lent_after_one, FindsInRange, IsAskedFor};
+ghost use Rattle.stepper.specs.Step.{change_by_step, lent_by_step, words_by_step, FindsInRange, IsAskedFor};
 ghost use Rattle.recover.specs.Table.{access_of, after_report, boot_recovery, recovery_next, recovery_reached, IsPoint};
 
 use crate::ends::RecoveryLoadHead;
@@ -41,14 +41,12 @@ impl Recovery {
             FindsInRange s (access_of s.kind self.old.at) (M.words memory.old) }
         requires asked { let s = layout.now in
             IsAskedFor s (access_of s.kind self.old.at) (M.lent memory.old).request }
-        ensures one_access { let s = layout.now in
-            M.words memory.new ≡ after_one s (access_of s.kind self.old.at) (M.words memory.old) }
-        ensures lent { let s = layout.now in
-            M.lent memory.new ≡ lent_after_one s (access_of s.kind self.old.at) (M.lent memory.old) }
+        ensures one_access { M.words memory.new
+            ≡ words_by_step access_of layout.now self.old.at (M.words memory.old) }
+        ensures lent { M.lent memory.new ≡ lent_by_step access_of layout.now self.old.at (M.lent memory.old) }
         ensures next { recovery_reached result.answer self.new
             ≡ recovery_next layout.now self.old (M.words memory.old) }
-        ensures change { let s = layout.now in
-            result.change ≡ change_by s (access_of s.kind self.old.at) (M.words memory.old) }
+        ensures change { result.change ≡ change_by_step access_of layout.now self.old.at (M.words memory.old) }
     {
         let stepped = self.at.step(layout, memory);
         let change = stepped.change;

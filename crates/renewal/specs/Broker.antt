@@ -26,8 +26,12 @@ abbrev pub slot_renewed : Counts → Counts → Option Queue → List ℕ → Li
 slot_renewed to c None old = replicate (block_size_of to.clients to.records) 0
 slot_renewed to c (Some queue) old = words_renewed (shape_of queue.kind to) (shape_of queue.kind c) old
 
+-- what the block of this slot becomes, whose queue, if it has one, is this
+abbrev pub block_anew : Counts → Counts → Option Queue → ℕ → List ℕ → List ℕ
+block_anew to c queue slot ws = slot_renewed to c queue (slot_block c slot ws)
+
 abbrev pub slot_block_renewed : Counts → Counts → List ℕ → ℕ → List ℕ
-slot_block_renewed to c ws slot = slot_renewed to c (slot_in ws slot) (slot_block c slot ws)
+slot_block_renewed to c ws slot = block_anew to c (slot_in ws slot) slot ws
 
 -- the new counts, the directory as it was, and then the block of each slot
 abbrev pub front_renewed : Counts → List ℕ → List ℕ
@@ -45,8 +49,12 @@ abbrev pub SlotFits : Counts → Counts → Option Queue → List ℕ → Type 0
 SlotFits to c None old = Unit {0}
 SlotFits to c (Some queue) old = ItemsFit (shape_of queue.kind to) (shape_of queue.kind c) old
 
+-- so do those of the queue in this slot, whose queue, if it has one, is this
+abbrev pub FitsAnew : Counts → Counts → Option Queue → ℕ → List ℕ → Type 0
+FitsAnew to c queue slot ws = SlotFits to c queue (slot_block c slot ws)
+
 abbrev pub BlockFits : Counts → List ℕ → ℕ → Type 0
-BlockFits to ws slot = SlotFits to (counts_in ws) (slot_in ws slot) (slot_block (counts_in ws) slot ws)
+BlockFits to ws slot = FitsAnew to (counts_in ws) (slot_in ws slot) slot ws
 
 -- those of each queue do
 abbrev pub AllFit : Counts → List ℕ → Type 0

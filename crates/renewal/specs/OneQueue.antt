@@ -1,6 +1,7 @@
 -- What the words of a whole broker become where one queue is written in fresh records.
-use Rattle.std.specs.Prelude.{◌≡◌, ◌≢◌, ℕ, ◌+◌, ◌-◌, ◌<◌, List, ◌++◌, map, length, slice_index}
+use Rattle.std.specs.Prelude.{◌≡◌, ◌≢◌, ℕ, ◌+◌, ◌-◌, ◌<◌, ◌≤◌, List, ◌++◌, Some, map, length, slice_index}
 use Rattle.std.specs.List.{range_with_len}
+use Rattle.persist.specs.Memory.{overwritten}
 use Rattle.words.specs.declared.refusal.Refusal.{Refusal}
 use Rattle.words.specs.declared.refusal.Refusal.TheVariants.{NoMemory, NoQueue, NoRoom}
 use Rattle.arena.specs.Broker.{block_from, block_size_of}
@@ -10,7 +11,7 @@ use Rattle.directory.specs.Directory.{HasQueue}
 use Rattle.directory.specs.Queue.{directory_of}
 use Rattle.directory.specs.Sound.{AreBrokerWords, counts_in}
 use Rattle.directory.specs.declared.queue.Queue.{Queue}
-use Rattle.renewal.specs.Broker.{BlockFits, slot_block, slot_block_renewed}
+use Rattle.renewal.specs.Broker.{BlockFits, FitsAnew, block_anew, slot_block, slot_block_renewed}
 use Rattle.renewal.specs.Words.{IsRenewalOf}
 
 -- so many words from this one on
@@ -39,6 +40,24 @@ pub record IsQueueRenewalOf (old : List ℕ) (slot : ℕ) (new : List ℕ) : Typ
       (shape_of queue.kind (counts_in old)) (slot_block (counts_in old) slot new)
   pub others : (other : ℕ) → other < SLOTS → other ≢ slot
       → slot_block (counts_in old) other new ≡ slot_block (counts_in old) other old
+
+-- its block in fresh records, in a broker of as many clients and records, and whether its items fit
+abbrev pub queue_anew : Counts → Queue → ℕ → List ℕ → List ℕ
+queue_anew c queue slot ws = block_anew c c (Some queue) slot ws
+
+abbrev pub QueueFits : Counts → Queue → ℕ → List ℕ → Type 0
+QueueFits c queue slot ws = FitsAnew c c (Some queue) slot ws
+
+-- a block for this slot is inside the words; written over them it renews the slot's queue
+abbrev pub IsBlockWithin : Counts → ℕ → List ℕ → List ℕ → Type 0
+IsBlockWithin c slot ws block = block_from c slot + length block ≤ length ws
+
+abbrev pub RenewsQueue : Counts → ℕ → List ℕ → List ℕ → Type 0
+RenewsQueue c slot ws block = overwritten (block_from c slot) block ws ≡ queue_renewed slot ws
+
+-- a broker with this slot's queue in fresh records has the same queues
+abbrev pub StaysRenewed : ℕ → List ℕ → Type 0
+StaysRenewed slot ws = IsQueueRenewalOf ws slot (queue_renewed slot ws)
 
 -- why the words are not written so, the first reason that applies
 abbrev pub IsWhyNotRenewed : List ℕ → ℕ → Refusal → Type 0

@@ -1,9 +1,10 @@
 -- Where the words of a node and of a record lie, and runs of words that are noted to be 0.
-use Rattle.std.specs.Prelude.{◌≡◌, ℕ, ◌+◌, ◌-◌, ◌*◌, ◌/◌, Bool, true, false, List, slice_index_or}
+use Rattle.std.specs.Prelude.{◌≡◌, ℕ, ◌+◌, ◌-◌, ◌*◌, ◌/◌, Bool, true, false, List, length, slice_index_or}
 use Rattle.words.specs.declared.call.Kind.{Kind}
 use Rattle.words.specs.declared.call.Kind.TheVariants.{Durable, Log}
-use Rattle.arena.specs.Shape.{Shape, greatest}
+use Rattle.arena.specs.Shape.{Shape, greatest, record_of}
 use Rattle.renewal.specs.Renewal.{Renewal}
+use Rattle.renewal.specs.Roles.{used_for}
 use Rattle.renewal.specs.Words.{IsFresh, word_renewed}
 use Rattle.renewal.specs.declared.zeros.TheConstants.{RUN}
 
@@ -22,6 +23,10 @@ node_from s n = 2 + 2 * s.clients + node_words s.kind * n
 
 abbrev pub answer_from : Shape → ℕ → ℕ
 answer_from s n = node_from s (greatest s + 1) + answer_words s.kind * (n - 1)
+
+-- the first record of a client that is not used, or the one past its last
+abbrev pub first_unused : Renewal → ℕ → ℕ
+first_unused r t = record_of r.shape t (used_for r.shape (length r.content) t)
 
 -- each word of a run that is noted is 0
 abbrev pub AreZeroRuns : Renewal → List Bool → Type 0

@@ -5,15 +5,14 @@ ghost use Rattle.arena.specs.Broker.{broker_size};
 ghost use Rattle.arena.specs.Limits.{AreCounts};
 ghost use Rattle.renewal.specs.Broker.{
   AllFit,
+  FitsAnew,
   HasSoundBlock,
   IsBrokerRenewalOf,
   MayBeRenewedTo,
-  SlotFits,
+  block_anew,
   blocks_renewed,
   broker_renewed,
   front_renewed,
-  slot_block,
-  slot_renewed,
 };
 
 use crate::block::{fits, renewed_block};
@@ -55,12 +54,10 @@ pub(crate) fn slot_words(
     requires kept { broker_size layout.now ≤ length memory.now.words.kept }
     requires clients { layout.now.clients ≤ to.now.clients }
     requires sound { IfSome queue.now (HasSoundBlock layout.now slot.0 memory.now.words.kept) }
-    ensures words { IfOk result (λ words. words.items
-        ≡ slot_renewed to.now layout.now queue.now (slot_block layout.now slot.0 memory.now.words.kept)) }
-    ensures room { OnOk result
-        (SlotFits to.now layout.now queue.now (slot_block layout.now slot.0 memory.now.words.kept)) }
+    ensures words { IfOk result (λ w. w.items ≡ block_anew to.now layout.now queue.now slot.0 memory.now.words.kept) }
+    ensures room { OnOk result (FitsAnew to.now layout.now queue.now slot.0 memory.now.words.kept) }
     ensures no_room { result ≡ Err Refusal.NoRoom
-        → ¬ SlotFits to.now layout.now queue.now (slot_block layout.now slot.0 memory.now.words.kept) }
+        → ¬ FitsAnew to.now layout.now queue.now slot.0 memory.now.words.kept }
     ensures errors { IfErr result (λ e. (e ≡ Refusal.NoRoom) ⊎ (e ≡ Refusal.NoMemory)) }
 {
     let Some(queue) = queue else {
@@ -90,8 +87,7 @@ fn slot_fits(
     requires room { broker_size layout.now ≤ length memory.now.words.cached }
     requires kept { broker_size layout.now ≤ length memory.now.words.kept }
     requires sound { IfSome queue.now (HasSoundBlock layout.now slot.0 memory.now.words.kept) }
-    ensures { IsTrue result
-        ↔ SlotFits to.now layout.now queue.now (slot_block layout.now slot.0 memory.now.words.kept) }
+    ensures { IsTrue result ↔ FitsAnew to.now layout.now queue.now slot.0 memory.now.words.kept }
 {
     let Some(queue) = queue else {
         return true;

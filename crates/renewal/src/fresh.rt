@@ -67,8 +67,8 @@ impl FreshBlock {
         tells: Reports,
     ) -> Result<Self, AllocError>
         requires { MayBeRenewed (record { shape = layout; content = content.items; tells = tells }) }
-        ensures { IfOk result (λ block.
-            block ≡ block_renewed (record { shape = layout; content = content.items; tells = tells })) }
+        ensures { IfOk result (λ b.
+            b ≡ block_renewed (record { shape = layout; content = content.items; tells = tells })) }
     {
         let renewal = Renewal {
             layout: &layout,

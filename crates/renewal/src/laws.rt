@@ -1,4 +1,5 @@
 //! What holds of words in fresh records.
+// A law's clause begins with all that it speaks of, so some of them are longer than 120 columns.
 
 ghost use Rattle.std.specs.Prelude.{◌≡◌, ℕ, List};
 ghost use Rattle.arena.specs.Content.{kept_content};

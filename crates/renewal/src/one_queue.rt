@@ -1,11 +1,10 @@
 //! The words of a whole broker, one queue in fresh records.
 
 ghost use Rattle.std.specs.Prelude.{◌≡◌, ◌+◌, ◌<◌, ◌≤◌, ◌⊎◌, Err, IfErr, IfOk, OnOk, Some, length};
-ghost use Rattle.arena.specs.Broker.{block_from, broker_size};
+ghost use Rattle.arena.specs.Broker.{broker_size};
 ghost use Rattle.directory.specs.Sound.{counts_in};
-ghost use Rattle.persist.specs.Memory.{overwritten};
-ghost use Rattle.renewal.specs.Broker.{BlockFits, HasSoundBlock, MayBeRenewedTo, SlotFits, slot_block, slot_renewed};
-ghost use Rattle.renewal.specs.OneQueue.{IsQueueRenewalOf, IsWhyNotRenewed, queue_renewed};
+ghost use Rattle.renewal.specs.Broker.{BlockFits, HasSoundBlock, MayBeRenewedTo};
+ghost use Rattle.renewal.specs.OneQueue.{IsBlockWithin, IsWhyNotRenewed, QueueFits, RenewsQueue, StaysRenewed, queue_anew};
 
 use crate::fresh::{FreshBlock, fresh_block};
 use arena::{BrokerLayout, SLOTS, SlotId};
@@ -26,12 +25,9 @@ fn fresh_in(
     requires room { broker_size layout.now ≤ length memory.now.words.cached }
     requires kept { broker_size layout.now ≤ length memory.now.words.kept }
     requires sound { HasSoundBlock layout.now slot.0 memory.now.words.kept queue.now }
-    ensures words { IfOk result (λ block. block
-        ≡ slot_renewed layout.now layout.now (Some queue.now) (slot_block layout.now slot.0 memory.now.words.kept)) }
-    ensures room { OnOk result
-        (SlotFits layout.now layout.now (Some queue.now) (slot_block layout.now slot.0 memory.now.words.kept)) }
-    ensures no_room { result ≡ Err Refusal.NoRoom
-        → ¬ SlotFits layout.now layout.now (Some queue.now) (slot_block layout.now slot.0 memory.now.words.kept) }
+    ensures words { IfOk result (λ block. block ≡ queue_anew layout.now queue.now slot.0 memory.now.words.kept) }
+    ensures room { OnOk result (QueueFits layout.now queue.now slot.0 memory.now.words.kept) }
+    ensures no_room { result ≡ Err Refusal.NoRoom → ¬ QueueFits layout.now queue.now slot.0 memory.now.words.kept }
     ensures errors { IfErr result (λ e. (e ≡ Refusal.NoRoom) ⊎ (e ≡ Refusal.NoMemory)) }
 {
     let Ok(block) = memory.view(layout.block(slot), layout.block_size()) else {
@@ -56,12 +52,9 @@ pub fn fresh_queue(
 ) -> Result<FreshBlock, Refusal>
     requires { MayBeRenewedTo memory.now.words kept.now.layout kept.now.directory kept.now.layout }
     ensures slot { OnOk result (slot.0 < SLOTS) }
-    ensures within { IfOk result (λ block.
-        block_from kept.now.layout slot.0 + length block ≤ length memory.now.words.kept) }
-    ensures renewed { IfOk result (λ block. overwritten (block_from kept.now.layout slot.0) block memory.now.words.kept
-        ≡ queue_renewed slot.0 memory.now.words.kept) }
-    ensures same { OnOk result
-        (IsQueueRenewalOf memory.now.words.kept slot.0 (queue_renewed slot.0 memory.now.words.kept)) }
+    ensures within { IfOk result (IsBlockWithin kept.now.layout slot.0 memory.now.words.kept) }
+    ensures renewed { IfOk result (RenewsQueue kept.now.layout slot.0 memory.now.words.kept) }
+    ensures same { OnOk result (StaysRenewed slot.0 memory.now.words.kept) }
     ensures room { OnOk result (BlockFits (counts_in memory.now.words.kept) memory.now.words.kept slot.0) }
     ensures errors { IfErr result (IsWhyNotRenewed memory.now.words.kept slot.0) }
 {

@@ -1,11 +1,10 @@
 //! The runs of a fresh block's words that are 0 throughout, so that nothing needs to be worked out for these.
 
-ghost use Rattle.std.specs.Prelude.{◌≡◌, ◌≤◌, ◌<◌, ◌+◌, ◌/◌, ℕ, IfOk, length, slice_index_or, false};
+ghost use Rattle.std.specs.Prelude.{◌≡◌, ◌≤◌, ◌<◌, ◌+◌, ◌/◌, ℕ, IfOk, slice_index_or, false};
 ghost use Rattle.arena.specs.Place.{IsClient};
 ghost use Rattle.arena.specs.Shape.{greatest, record_of};
-ghost use Rattle.renewal.specs.Roles.{used_for};
 ghost use Rattle.renewal.specs.Words.{MayBeRenewed, word_renewed};
-ghost use Rattle.renewal.specs.Zeros.{AreZeroRuns, answer_from, node_from};
+ghost use Rattle.renewal.specs.Zeros.{AreZeroRuns, answer_from, node_from, first_unused};
 
 use crate::renewal::Renewal;
 use arena::block_size;
@@ -54,8 +53,7 @@ impl Renewal<'_> {
     /// The client's first record that is not used, or past its last one.
     fn first_unused(&self, client: Client) -> usize
         requires { IsClient self.now.shape client.0 }
-        ensures record { result
-            ≡ record_of self.now.shape client.0 (used_for self.now.shape (length self.now.content) client.0) }
+        ensures record { result ≡ first_unused self.now client.0 }
         ensures some { 1 ≤ result }
         ensures few { result ≤ greatest self.now.shape + 1 }
     {

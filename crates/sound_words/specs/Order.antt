@@ -8,6 +8,7 @@ use Rattle.arena.specs.Content.{chain_of}
 use Rattle.arena.specs.declared.form.Form.{Form}
 use Rattle.arena.specs.declared.place.Place.{Place}
 use Rattle.sound_words.specs.Kept.{kept_by}
+use Rattle.sound_words.specs.declared.soundness.Survey.{Survey}
 use Rattle.sound_words.specs.Sound.{IsOnChain, IsIssued, IsClaimed, IsClaimOf, IsPassed, IsResultIn, IsInserted, StatusIsSound, RemovedIsSound}
 
 -- the chain ends, and has nodes of used records
@@ -49,6 +50,10 @@ pub record IsTokenTable (s : Shape) (kept : Place → ℕ) (claimed : List ℕ) 
 pub record IsSurveyOf (form : Form) (s : Shape) (ws place claimed : List ℕ) : Type 0 where
   pub places : IsPlaceTable s (kept_by form s ws) place
   pub tokens : IsTokenTable s (kept_by form s ws) claimed
+
+-- the survey is of these words
+abbrev pub IsSurvey : Form → Shape → List ℕ → Survey → Type 0
+IsSurvey form s ws survey = IsSurveyOf form s ws survey.place survey.claimed
 
 -- durable queues: a cell tells only what it claims, and a claimed node's cell tells of it
 pub record CellTellsIn (form : Form) (s : Shape) (kept : Place → ℕ) (c : ℕ) : Type 0 where

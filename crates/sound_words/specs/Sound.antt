@@ -24,11 +24,15 @@ use Rattle.arena.specs.declared.place.Part.TheVariants.{First}
 use Rattle.arena.specs.declared.place.Place.{Place}
 use Rattle.arena.specs.declared.place.Place.TheVariants.{Head, Tail, Insert, Number, EntryNode}
 
+-- the words from this one on are 0
+abbrev pub AreZeroFrom : ℕ → List ℕ → Type 0
+AreZeroFrom from ws = (w : ℕ) → from ≤ w → w < length ws → slice_index ws w ≡ 0
+
 -- a block of a broker: past the queue's words it is all zero
 pub record IsBlockIn (form : Form) (s : Shape) (ws : List ℕ) : Type 0 where
   pub count : length ws ≡ block_size_in form s.clients s.records
   pub room : size_in form s ≤ length ws
-  pub rest : (w : ℕ) → size_in form s ≤ w → w < length ws → slice_index ws w ≡ 0
+  pub rest : AreZeroFrom (size_in form s) ws
 
 -- there are as many words as the layout has, or they are a block
 abbrev pub SizeIsSoundIn : Form → Shape → List ℕ → Type 0

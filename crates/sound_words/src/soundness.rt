@@ -5,8 +5,9 @@ ghost use Rattle.arena.specs.Broker.{block_size_in};
 ghost use Rattle.arena.specs.Layout.{size_in};
 ghost use Rattle.arena.specs.Shape.{greatest};
 ghost use Rattle.sound_words.specs.Kept.{kept_of};
-ghost use Rattle.sound_words.specs.Order.{IsClaimTable, IsOrder, IsSurveyOf};
-ghost use Rattle.sound_words.specs.Sound.{SizeIsSoundIn, RecordsAreSoundIn, AreSoundWords, AreSoundWordsIn, IsVerdictOn, IsDamaged, IsDamagedIn};
+ghost use Rattle.sound_words.specs.Order.{IsClaimTable, IsOrder, IsSurvey};
+ghost use Rattle.sound_words.specs.Sound.{AreZeroFrom, SizeIsSoundIn, RecordsAreSoundIn};
+ghost use Rattle.sound_words.specs.Sound.{AreSoundWords, AreSoundWordsIn, IsVerdictOn, IsDamaged, IsDamagedIn};
 
 use crate::kept::KeptQueue;
 use arena::{Form, Layout, block_size, block_size_of_values, size_of_values};
@@ -18,8 +19,7 @@ const MAX_NODES: usize = MAX_RECORD_NUMBER as usize + 1;
 
 /// Whether the words from this one on are 0.
 fn is_rest_zero<W: KeptWords>(words: &W, from: usize) -> bool
-    ensures { IsTrue result ↔ ((w : ℕ) → from ≤ w → w < length (W.kept_words words.now) →
-        slice_index (W.kept_words words.now) w ≡ 0) }
+    ensures { IsTrue result ↔ AreZeroFrom from (W.kept_words words.now) }
 {
     for word in from..words.size() {
         if words.kept(word) != 0 {
@@ -142,8 +142,7 @@ fn first_broken<W: KeptWords>(
     requires no_place { (n : ℕ) → slice_index survey.old.place n ≡ 0 }
     requires no_token { (n : ℕ) → slice_index survey.old.claimed n ≡ 0 }
     ensures broken { IsVerdictOn form layout.now (W.kept_words words.now) result }
-    ensures survey { IfNone result (IsSurveyOf form layout.now (W.kept_words words.now)
-        survey.new.place survey.new.claimed) }
+    ensures survey { IfNone result (IsSurvey form layout.now (W.kept_words words.now) survey.new) }
 {
     // With words missing, a place would have no word; with a word too many that is not 0, it is another layout's.
     if !is_size_sound(form, layout, words) {
@@ -163,8 +162,7 @@ fn first_broken<W: KeptWords>(
 /// first one.
 pub fn surveyed<W: KeptWords>(form: Form, layout: &Layout, words: &W) -> Result<Survey, Refusal>
     ensures ok { IsOk result ↔ AreSoundWordsIn form layout.now (W.kept_words words.now) }
-    ensures survey { IfOk result (λ found. IsSurveyOf form layout.now (W.kept_words words.now)
-        found.place found.claimed) }
+    ensures survey { IfOk result (λ found. IsSurvey form layout.now (W.kept_words words.now) found) }
     ensures damaged { IfErr result (λ e. IsDamagedIn form layout.now (W.kept_words words.now) e) }
 {
     let mut survey = Survey {

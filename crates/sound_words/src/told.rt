@@ -3,13 +3,12 @@
 ghost use Rattle.std.specs.Prelude.{◌≡◌, ℕ, ◌≤◌, Bool, false, length, slice_index, slice_index_or};
 ghost use Rattle.arena.specs.Place.{IsClient, IsNode, IsRecord};
 ghost use Rattle.arena.specs.Words.{values};
-ghost use Rattle.arena.specs.Content.{chain_of};
 ghost use Rattle.arena.specs.declared.form.Form.TheVariants.{OfItems};
 ghost use Rattle.words.specs.declared.call.Kind.TheVariants.{Durable, Log};
 ghost use Rattle.sound_words.specs.Kept.{kept_in, kept_of};
 ghost use Rattle.sound_words.specs.Sound.{IsSound, AreSoundWords};
 ghost use Rattle.sound_words.specs.Seen.{IsSeen, IsSeenOf, AreSeen, IsNodeNoted, IsClaimNoted};
-ghost use Rattle.sound_words.specs.Told.{node_claimed_by, row_with, outcome_by, told_by, tells_by};
+ghost use Rattle.sound_words.specs.Told.{row_by, outcome_by, told_by, tells_by};
 
 use crate::kept::KeptQueue;
 use arena::{EMPTY_CELL, EMPTY_STATUS, ENQUEUE_KIND, Layout, Place, value_of};
@@ -86,8 +85,7 @@ impl<W: KeptWords> KeptQueue<'_, W> {
         requires durable { self.now.shape.kind ≡ Durable }
         requires cell { IsRecord self.now.shape cell.0 }
         requires seen { (on_chain : Bool) × IsSeen self.now.shape (kept_of self.now) cell.0 on_chain claimed }
-        ensures { result ≡ row_with (kept_of self.now) cell.0
-            (node_claimed_by (kept_of self.now) cell.0 (chain_of self.now.shape (kept_of self.now))) }
+        ensures { result ≡ row_by self.now.shape (kept_of self.now) cell.0 }
     {
         if claimed != 0 {
             return Row::Got(self.kept_value(NodeId(claimed)));

@@ -1,5 +1,6 @@
 -- One access to a memory, at a place, and what a step makes of it.
 use Rattle.std.specs.Prelude.{◌≡◌, ℕ, Option, Some, None, slice_index}
+use Rattle.words.specs.declared.call.Kind.{Kind}
 use Rattle.persist.specs.Memory.{Words, Access, Load, Store, Cas, Flush, Fence, Lent, Request, Word, after, lent_after}
 use Rattle.persist.specs.Changes.{change_of}
 use Rattle.persist.specs.declared.access.Change.{Change}
@@ -7,6 +8,7 @@ use Rattle.arena.specs.Layout.{word_at}
 use Rattle.arena.specs.Ranges.{Fits}
 use Rattle.arena.specs.Shape.{Shape}
 use Rattle.arena.specs.declared.place.Place.{Place}
+use Rattle.stepper.specs.declared.resume.After.{After}
 
 abbrev pub place_of : Access Place → Place
 place_of (Load place) = place
@@ -62,6 +64,21 @@ IsReadInRange s (Fence place) found = Unit {0}
 -- so it is of what the access finds
 abbrev pub FindsInRange : Shape → Access Place → Words → Type 0
 FindsInRange s access ws = IsReadInRange s access (value_found s access ws)
+
+-- the same of a step at a table's waiting point: the words after its one access, how they are lent then, the change of
+-- a kept value, and that this comes next
+abbrev pub words_by_step : {P : Type 0} → (Kind → P → Access Place) → Shape → P → Words → Words
+words_by_step access s point ws = after_one s (access s.kind point) ws
+
+abbrev pub lent_by_step : {P : Type 0} → (Kind → P → Access Place) → Shape → P → Lent → Lent
+lent_by_step access s point lent = lent_after_one s (access s.kind point) lent
+
+abbrev pub change_by_step : {P : Type 0} → (Kind → P → Access Place) → Shape → P → Words → Option Change
+change_by_step access s point ws = change_by s (access s.kind point) ws
+
+abbrev pub IsNext : {P A : Type 0} → (Kind → P → Access Place) → (Shape → P → ℕ → After P A) → Shape → P → Words
+    → After P A → Type 0
+IsNext access successor s point ws after = after ≡ successor s point (value_found s (access s.kind point) ws)
 
 -- the place whose word the access keeps, if it is a fence
 abbrev pub kept_by : Access Place → Option Place

@@ -60,7 +60,8 @@ pub trait Points {
 pub trait Resume {
     ghost use Rattle.std.specs.Prelude.{◌≡◌, ◌≤◌, length};
     ghost use Rattle.arena.specs.Layout.{size_of};
-    ghost use Rattle.stepper.specs.Step.{after_one, change_by, lent_after_one, value_found, FindsInRange, IsAskedFor};
+    ghost use Rattle.stepper.specs.Step.{change_by_step, lent_by_step, words_by_step};
+    ghost use Rattle.stepper.specs.Step.{FindsInRange, IsAskedFor, IsNext};
 
     /// The points of its machine.
     type Point: Points;
@@ -76,16 +77,14 @@ pub trait Resume {
     ) -> Stepped<Self::Point, <Self::Point as Points>::Answer>
         requires room { size_of layout.now ≤ length (M.words memory.old).cached }
         requires point { Self.Point.in_range layout.now (point self) }
-        requires read { let s = layout.now in
-            FindsInRange s (Self.Point.access s.kind (point self)) (M.words memory.old) }
-        requires asked { let s = layout.now in
-            IsAskedFor s (Self.Point.access s.kind (point self)) (M.lent memory.old).request }
-        ensures one_access { let s = layout.now in
-            M.words memory.new ≡ after_one s (Self.Point.access s.kind (point self)) (M.words memory.old) }
-        ensures lent { let s = layout.now in
-            M.lent memory.new ≡ lent_after_one s (Self.Point.access s.kind (point self)) (M.lent memory.old) }
-        ensures next { let s = layout.now in let access = Self.Point.access s.kind (point self) in
-            result.after ≡ Self.Point.successor s (point self) (value_found s access (M.words memory.old)) }
-        ensures change { let s = layout.now in
-            result.change ≡ change_by s (Self.Point.access s.kind (point self)) (M.words memory.old) };
+        requires read { FindsInRange layout.now (Self.Point.access layout.now.kind (point self)) (M.words memory.old) }
+        requires asked { IsAskedFor layout.now (Self.Point.access layout.now.kind (point self))
+            (M.lent memory.old).request }
+        ensures one_access { M.words memory.new
+            ≡ words_by_step Self.Point.access layout.now (point self) (M.words memory.old) }
+        ensures lent { M.lent memory.new ≡ lent_by_step Self.Point.access layout.now (point self) (M.lent memory.old) }
+        ensures next { IsNext Self.Point.access Self.Point.successor layout.now (point self) (M.words memory.old)
+            result.after }
+        ensures change { result.change
+            ≡ change_by_step Self.Point.access layout.now (point self) (M.words memory.old) };
 }

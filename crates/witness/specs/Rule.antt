@@ -13,6 +13,10 @@ module _ {E : Type 0} where
     pub more : List E
     pub is : all ≡ some ++ more
 
+  -- one of two lists begins the other
+  abbrev pub OneBegins : List E → List E → Type 0
+  OneBegins one other = Begins one other ⊎ Begins other one
+
   -- a token that knows the row
   abbrev pub keeper : List E → View E
   keeper row = record { keeps = true; row = row; knows = false; begins = []; also = [] }
@@ -55,7 +59,7 @@ module _ {S E : Type 0} where
   -- nothing changes, and of two beginnings the one begins the other
   abbrev pub ComparesBeginnings : Step S → Me S (View E) → ℕ → Me S (View E) → Type 0
   ComparesBeginnings st old n new =
-      (Begins old.0.begins old.0.also ⊎ Begins old.0.also old.0.begins) × (new ≡ old)
+      OneBegins old.0.begins old.0.also × (new ≡ old)
 
   -- the row that a keeper knows
   abbrev pub row_of : Seat S (View E) → List E

@@ -1,7 +1,7 @@
 //! Rows and their tokens.
 
-ghost use Rattle.std.specs.Prelude.{◌≡◌, ◌⊎◌, ◌++◌, ◌∷◌, [], IfOk};
-ghost use Rattle.witness.specs.Rule.{Begins, IsKeeper, IsWitness, beginning_of, row_of};
+ghost use Rattle.std.specs.Prelude.{◌≡◌, ◌++◌, ◌∷◌, [], IfOk};
+ghost use Rattle.witness.specs.Rule.{Begins, IsKeeper, IsWitness, beginning_of, row_of, OneBegins};
 
 use crate::law::{Both, Compare, Enter, Grows, Hear, LetGo, TakeIn, Tell, View};
 use atomic_table::{Seat, Table};
@@ -75,8 +75,7 @@ impl<E> Row<E> {
     pub fn compare(&self, one: &mut Token<E>, other: Token<E>) -> Token<E>
         requires one { IsWitness self.now (beginning_of one.old) one.old }
         requires other { IsWitness self.now (beginning_of other) other }
-        ensures begins { Begins (beginning_of one.old) (beginning_of other)
-            ⊎ Begins (beginning_of other) (beginning_of one.old) }
+        ensures begins { OneBegins (beginning_of one.old) (beginning_of other) }
         ensures one { IsWitness self.now (beginning_of one.old) one.new }
         ensures other { IsWitness self.now (beginning_of other) result }
     {

@@ -44,6 +44,10 @@ pub record AreParts (len first second third : ℕ) : Type 0 where
   pub short : len ≤ ITEM_BYTES
   pub padded : (k : ℕ) → len ≤ k → slice_index (row_of first second third) k ≡ 0
 
+-- so these four are, in this order
+abbrev pub AreItemParts : List ℕ → Type 0
+AreItemParts parts = AreParts (slice_index parts 0) (slice_index parts 1) (slice_index parts 2) (slice_index parts 3)
+
 -- as a transcript spells it: two lowercase hexadecimal digits for each byte, and `.` for none
 abbrev pub item_text : List ℕ → List ℕ
 item_text [] = codes "."

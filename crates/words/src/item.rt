@@ -4,7 +4,7 @@ ghost use Rattle.std.specs.Prelude.{◌≡◌, ◌↔◌, ◌≤◌, ◌<◌, �
 ghost use Rattle.std.specs.List.{list_all};
 ghost use Rattle.std.specs.Str.{IsUtf8};
 ghost use Rattle.hex.specs.Hex.{encode_lower};
-ghost use Rattle.words.specs.Item.{AreParts, IsItem, item_row, item_parts, item_of_parts, row_of, item_in, is_hex, is_lower_digit, is_zero};
+ghost use Rattle.words.specs.Item.{AreItemParts, IsItem, item_row, item_parts, item_of_parts, row_of, item_in, is_hex, is_lower_digit, is_zero};
 
 use crate::Refusal;
 use std::fmt;
@@ -149,8 +149,7 @@ impl Item {
 
     /// Whether a length and three words are those of an item: the length is at most 24, and each byte past it is 0.
     pub fn are_parts(parts: [u64; 4]) -> bool
-        ensures { IsTrue result ↔ AreParts (slice_index parts 0) (slice_index parts 1) (slice_index parts 2)
-            (slice_index parts 3) }
+        ensures { IsTrue result ↔ AreItemParts parts }
     {
         let [len, first, second, third] = parts;
         if len > ITEM_BYTES as u64 {
