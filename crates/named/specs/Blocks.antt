@@ -1,18 +1,20 @@
 -- A queue in its block: a core, where its words lie in the memory of a broker, and which ports it acts through.
-use Rattle.std.specs.Prelude.{◌≡◌, ℕ, ◌+◌, ◌<◌, ◌≤◌, ◌⊎◌, Result, length}
+use Rattle.std.specs.Prelude.{◌≡◌, ℕ, ◌+◌, ◌-◌, ◌<◌, ◌≤◌, ◌⊎◌, Result, Some, length}
 use Rattle.words.specs.declared.call.Client.{Client}
 use Rattle.words.specs.declared.call.Reply.{Reply}
 use Rattle.words.specs.declared.limits.TheConstants.{QUEUE_PORTS}
 use Rattle.words.specs.declared.refusal.Refusal.{Refusal}
-use Rattle.persist.specs.Memory.{MemoryState, Request, Words, IsSameOutside, asked_through, seen_in, words_in}
+use Rattle.persist.specs.Memory.{MemoryState, Request, Words, IsSameOutside, asked_through, seen_in, words_after_crash, words_in}
 use Rattle.persist.specs.declared.memory.TheConstants.{PORTS}
 use Rattle.arena.specs.Shape.{Shape}
+use Rattle.recover.specs.Table.{boot_recovery}
 use Rattle.interleave.specs.Asked.{AreAsked}
+use Rattle.interleave.specs.Booted.{booted_world}
 use Rattle.interleave.specs.Core.{CoreState, roomy_over, state_of}
 use Rattle.interleave.specs.Holds.{Holds}
 use Rattle.interleave.specs.Ranges.{AreUnused}
 use Rattle.interleave.specs.Rules.{Rule, IsByAlone, IsByRule}
-use Rattle.interleave.specs.State.{State}
+use Rattle.interleave.specs.State.{State, after_evict, world_over}
 use Rattle.interleave.specs.Trace.{Roomy}
 
 pub record BlockState : Type 0 where
@@ -28,6 +30,18 @@ state_in ws block = state_of block.core (words_in block.from block.len ws)
 -- and for how many acts more there is room
 abbrev pub roomy_in : Words → BlockState → Roomy
 roomy_in ws block = roomy_over block.core (words_in block.from block.len ws)
+
+-- what an eviction of a word, by its number in the whole memory, makes of its world
+abbrev pub state_evicted_in : Words → ℕ → BlockState → State
+state_evicted_in ws word block = after_evict (state_in ws block) (word - block.from)
+
+-- the world of a queue that recovery is the first to find: nobody called yet, and its recovery is to come
+abbrev pub world_to_recover : Shape → Words → State
+world_to_recover s ws = record (world_over s ws) { recovery = Some boot_recovery }
+
+-- once these words crash, the block is the world that begins on what this part of them keeps
+abbrev pub IsBlockBooted : Shape → ℕ → ℕ → Words → BlockState → Type 0
+IsBlockBooted s from len ws block = state_in (words_after_crash ws) block ≡ booted_world s (words_in from len ws)
 
 -- the block is inside the memory, which has the queue's ports, and its world holds there
 pub record IsWellIn (ws : Words) (block : BlockState) : Type 0 where

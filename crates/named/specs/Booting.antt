@@ -26,10 +26,17 @@ use Rattle.named.specs.declared.slot.Slot.TheVariants.{Closed}
 abbrev pub kept_block : Counts → ℕ → List ℕ → List ℕ
 kept_block = block_in running
 
+-- the words of a slot's block are those that a queue of this kind may begin on
+abbrev pub IsSoundFor : Form → Counts → Kind → ℕ → List ℕ → Type 0
+IsSoundFor form c kind slot ws = AreSoundWordsIn form (shape_of kind c) (block_in form c slot ws)
+
+-- they break a rule, the first of them this
+abbrev pub IsDamagedFor : Form → Counts → Kind → ℕ → List ℕ → Refusal → Type 0
+IsDamagedFor form c kind slot ws refusal = IsDamagedIn form (shape_of kind c) (block_in form c slot ws) refusal
+
 -- the words of the block of an open slot are those that a queue of its kind may begin on
 abbrev pub IsBlockSoundIn : Form → List ℕ → ℕ → Queue → Type 0
-IsBlockSoundIn form ws slot queue =
-    AreSoundWordsIn form (shape_of queue.kind (counts_in ws)) (block_in form (counts_in ws) slot ws)
+IsBlockSoundIn form ws slot queue = IsSoundFor form (counts_in ws) queue.kind slot ws
 
 -- words that a broker may begin on, or that may be migrated
 pub record AreBootWordsIn (form : Form) (ws : List ℕ) : Type 0 where
@@ -44,7 +51,7 @@ pub record IsBlockDamagedIn (form : Form) (ws : List ℕ) (refusal : Refusal) : 
   pub has : HasQueue (directory_of ws) slot queue
   pub below : (other : ℕ) (q : Queue) → other < slot → HasQueue (directory_of ws) other q
       → IsBlockSoundIn form ws other q
-  pub damaged : IsDamagedIn form (shape_of queue.kind (counts_in ws)) (block_in form (counts_in ws) slot ws) refusal
+  pub damaged : IsDamagedFor form (counts_in ws) queue.kind slot ws refusal
 
 -- why it may not begin: the words break a rule, the first of them this; or they are sound, and there is no memory
 abbrev pub MayRefuseIn : Form → List ℕ → Refusal → Type 0

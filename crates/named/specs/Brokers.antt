@@ -43,6 +43,10 @@ pub record Brokered : Type 0 where
   pub creation : Option Creation
   pub recovery : Option BrokerRecovery
 
+-- so many clients of each queue, with so many records each
+abbrev pub counts_of : ℕ → ℕ → Counts
+counts_of clients records = record { clients = clients; records = records }
+
 -- the world in a slot, where it is open
 abbrev pub world_of : Words → Option Slot → Option State
 world_of ws (Some slot) = world_in ws slot

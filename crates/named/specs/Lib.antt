@@ -3,6 +3,7 @@ pub mod Blocks
 pub mod Slots
 pub mod Each
 pub mod Brokers
+pub mod BrokerView
 pub mod Finding
 pub mod Acting
 pub mod Asked

@@ -18,7 +18,7 @@ use Rattle.directory.specs.Directory.{HasQueue}
 use Rattle.directory.specs.Queue.{directory_of}
 use Rattle.directory.specs.Sound.{counts_in}
 use Rattle.directory.specs.declared.queue.Queue.{Queue}
-use Rattle.renewal.specs.Broker.{BlockFits, IsBrokerRenewalOf, broker_renewed}
+use Rattle.renewal.specs.Broker.{AllFit, BlockFits, IsBrokerRenewalOf, broker_renewed}
 use Rattle.renewal.specs.OneQueue.{IsQueueRenewalOf, queue_renewed}
 use Rattle.interleave.specs.Queue.{told_in, told_to}
 use Rattle.interleave.specs.State.{State, kept_content, kept_tells}
@@ -63,13 +63,9 @@ pub record IsRenewed (old : List ℕ) (to : Counts) (b : Brokered) : Type 0 wher
       → BeginsRenewed (shape_of queue.kind (counts_in old)) (kept_block (counts_in old) slot old)
       (shape_of queue.kind to) (world_at b slot)
 
--- the items of each queue fit
-abbrev pub AllFit : List ℕ → Counts → Type 0
-AllFit old to = (slot : ℕ) → slot < SLOTS → BlockFits to old slot
-
 -- these are counts for it, and the items of some queue do not fit
 abbrev pub DoesNotFit : List ℕ → Counts → Type 0
-DoesNotFit old to = AreCountsFor old to × (AllFit old to → ⊥)
+DoesNotFit old to = AreCountsFor old to × (AllFit to old → ⊥)
 
 -- why it does not begin so, the first reason that applies
 abbrev pub IsWhyUnrenewed : List ℕ → Counts → Refusal → Type 0

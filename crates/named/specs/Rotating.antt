@@ -1,6 +1,7 @@
 -- A rotation of a broker: the histories of all its queues end, and others begin.
-use Rattle.std.specs.Prelude.{◌≡◌, ◌≤◌, ℕ, Bool, true, false, ◌||◌, is_some, List, Some, length, slice_get, Result, Ok, Err, if◌then◌else◌}
+use Rattle.std.specs.Prelude.{◌≡◌, ◌≤◌, ℕ, Bool, true, false, ◌||◌, is_some, List, Some, Vec, length, map, slice_get, Result, Ok, Err, if◌then◌else◌}
 use Rattle.std.specs.List.{list_any}
+use Rattle.std.specs.declared.alloc.Global.{Global}
 use Rattle.words.specs.PlainQueue.{Value}
 use Rattle.words.specs.declared.refusal.Refusal.{Refusal}
 use Rattle.words.specs.declared.refusal.Refusal.TheVariants.{NotReady, Busy, NoMemory}
@@ -32,6 +33,10 @@ pub record IsBegunAnew (ws : Words) (old new : Slot) : Type 0 where
   pub room : room_in old ≤ room_in new
   pub same : IsSameSlot old new
   pub as_ready : IsAsReady old new
+
+-- the items of each of these lists
+abbrev pub items_of_each : List (Vec Value Global) → List (List Value)
+items_of_each = map (λ values. values.items)
 
 -- each slot's queue may end its history; this is what the next ones begin with; they began
 abbrev pub AreQuiet : Words → List Slot → Type 0

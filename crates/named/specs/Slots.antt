@@ -10,8 +10,8 @@ use Rattle.persist.specs.Memory.{MemoryState, Words, IsSameOutside, words_after_
 use Rattle.protocol.specs.Rotated.{empty_trace}
 use Rattle.interleave.specs.Calls.{is_no_memory}
 use Rattle.interleave.specs.Rules.{Rule, waiting_in}
-use Rattle.interleave.specs.State.{State, after_alone, after_evict, IsAnsweredAlone}
-use Rattle.named.specs.Blocks.{AskAlikeBeside, BlockState, IsAskedIn, LieInOnePlace, state_in, IsWellIn}
+use Rattle.interleave.specs.State.{State, after_alone, IsAnsweredAlone}
+use Rattle.named.specs.Blocks.{AskAlikeBeside, BlockState, IsAskedIn, LieInOnePlace, state_evicted_in, state_in, IsWellIn}
 use Rattle.named.specs.declared.slot.Slot.{Slot}
 use Rattle.named.specs.declared.slot.Slot.TheVariants.{Closed, Open}
 
@@ -107,7 +107,7 @@ IsWordOf (Open block) word = IsWordIn block word
 -- what an eviction of a word of its block makes of the slot's world
 abbrev pub world_evicted_in : Slot → ℕ → Words → Option State
 world_evicted_in Closed word ws = None
-world_evicted_in (Open block) word ws = Some (after_evict (state_in ws block) (word - block.from))
+world_evicted_in (Open block) word ws = Some (state_evicted_in ws word block)
 
 -- what an eviction of a word of the slot's block leaves of the words outside it: a closed slot is evicted from itself
 abbrev pub IsEvictedOutside : Slot → ℕ → Words → Words → Type 0
@@ -128,7 +128,7 @@ pub record IsWithinSlot (old_memory : MemoryState) (old : Slot) (new_memory : Me
   pub same : IsSameSlot old new
   pub as_ready : IsAsReady old new
 
--- a client's act by a rule: a closed slot has no queue
+-- an act by a rule, of a client or of recovery: a closed slot has no queue
 pub record IsActInSlot {A : Type 0} (rule : Rule A) (old_words : Words) (old : Slot) (result : Result A Refusal)
     (new_words : Words) (new : Slot) : Type 0 where
   pub world : world_in new_words new ≡ acted (rule.leaves (is_no_memory result)) (world_in old_words old)

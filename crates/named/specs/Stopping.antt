@@ -1,14 +1,15 @@
 -- A crash of a broker, and the steps of its recovery.
-use Rattle.std.specs.Prelude.{◌≡◌, ◌≢◌, ℕ, ◌+◌, ◌<◌, ◌≤◌, Bool, true, false, is_none, Option, Some, None, Result, Ok, Err, IsSome, slice_set}
+use Rattle.std.specs.Prelude.{◌≡◌, ◌≢◌, ℕ, ◌+◌, ◌<◌, ◌≤◌, Bool, true, false, is_none, Option, Some, None, Result, Ok, Err, IsSome, List, slice_get, slice_set}
 use Rattle.words.specs.declared.call.Kind.{Kind}
 use Rattle.words.specs.declared.refusal.Refusal.{Refusal}
 use Rattle.words.specs.declared.refusal.Refusal.TheVariants.{AlreadyReady}
 use Rattle.persist.specs.Memory.{Words, words_after_crash}
-use Rattle.arena.specs.Shape.{Counts}
+use Rattle.arena.specs.Shape.{Counts, shape_of}
 use Rattle.arena.specs.declared.broker.SlotId.{SlotId}
 use Rattle.stepper.specs.declared.resume.After.{After}
 use Rattle.stepper.specs.declared.resume.After.TheVariants.{More, Done}
 use Rattle.directory.specs.Directory.{Directory, HasQueue}
+use Rattle.directory.specs.Queue.{slot_in}
 use Rattle.directory.specs.Recovery.{boot_recovery, access_of, recovered}
 use Rattle.directory.specs.Step.{after_one, value_found}
 use Rattle.directory.specs.declared.creation.Creation.{Creation}
@@ -17,10 +18,10 @@ use Rattle.directory.specs.declared.recovery.DirectoryRecovery.{DirectoryRecover
 use Rattle.directory.specs.declared.recovery.Recovered.{Recovered}
 use Rattle.interleave.specs.Calls.{is_no_memory}
 use Rattle.interleave.specs.State.{State, after_stop, after_recover, recover_result}
-use Rattle.recover.specs.Table.{boot_recovery as queue_recovery}
-use Rattle.named.specs.Slots.{acted, answered}
 use Rattle.directory.specs.UnderWay.{HaveSameDirectory, IsAtRest}
-use Rattle.named.specs.Brokers.{Brokered, IsReading, block_world, quiet, room_at, world_at}
+use Rattle.named.specs.Blocks.{world_to_recover}
+use Rattle.named.specs.Slots.{acted, answered}
+use Rattle.named.specs.Brokers.{Brokered, IsReading, block_words, quiet, room_at, world_at}
 use Rattle.named.specs.declared.recovery.BrokerRecovery.{BrokerRecovery}
 use Rattle.named.specs.declared.recovery.BrokerRecovery.TheVariants.{ReadDirectory, RecoverQueue}
 
@@ -72,10 +73,14 @@ found_by b at = recovered at (value_found b.counts (access_of at) b.words)
 
 -- the world of a queue that recovery is the first to find: nobody called yet, and its recovery is to come
 abbrev pub recovering_world : Counts → Kind → ℕ → Words → State
-recovering_world c kind slot ws = record (block_world c kind slot ws) { recovery = Some queue_recovery }
+recovering_world c kind slot ws = world_to_recover (shape_of kind c) (block_words c slot ws)
 
 abbrev pub found_world : Brokered → Kind → ℕ → Words → State
 found_world b kind slot ws = recovering_world b.counts kind slot ws
+
+-- the directory says of this slot what the kept words say
+abbrev pub IsKnownByKept : List ℕ → Directory → SlotId → Type 0
+IsKnownByKept kept directory slot = slice_get directory slot.0 ≡ Some (slot_in kept slot.0)
 
 -- a slot whose gate was found open and that was closed is that of the creation which a crash dropped, and is opened
 pub record IsFoundFirst (old new : Brokered) (slot : SlotId) : Type 0 where

@@ -7,15 +7,13 @@ ghost use Rattle.persist.specs.Noted.{answer_in, change_behind, change_in, IsNot
 ghost use Rattle.persist.specs.declared.memory.TheConstants.{PORTS};
 ghost use Rattle.persist.specs.Memory.{Words, words_in, words_after_crash, words_after_eviction};
 ghost use Rattle.sound_words.specs.Sound.{AreSoundWords};
-ghost use Rattle.recover.specs.Table.{boot_recovery};
 ghost use Rattle.protocol.specs.Rotated.{empty_trace};
-ghost use Rattle.interleave.specs.Booted.{booted_world};
 ghost use Rattle.interleave.specs.Queue.{told_in, told_to};
 ghost use Rattle.interleave.specs.Rotation.{after_rotation, rotate_result, some_client_calls};
 ghost use Rattle.interleave.specs.Rules.{recovering, starting, stepping};
-ghost use Rattle.interleave.specs.State.{world_over, after_evict, after_stop, kept_content};
+ghost use Rattle.interleave.specs.State.{world_over, after_stop, kept_content};
 ghost use Rattle.interleave.specs.Verdicts.{number_under_way};
-ghost use Rattle.named.specs.Blocks.{state_in, IsActIn, IsAloneIn, IsAskedIn, IsSameWords, IsWellIn, IsWellWhereUnused, IsWithinBlock, LieInOnePlace};
+ghost use Rattle.named.specs.Blocks.{state_evicted_in, state_in, world_to_recover, IsActIn, IsAloneIn, IsAskedIn, IsBlockBooted, IsSameWords, IsWellIn, IsWellWhereUnused, IsWithinBlock, LieInOnePlace};
 
 use arena::Layout;
 use events::{History, Order};
@@ -102,8 +100,7 @@ impl Block {
         requires kept { from + len ≤ length memory.now.words.kept }
         requires ports { port + QUEUE_PORTS ≤ PORTS }
         requires sound { AreSoundWords layout (words_in from len memory.now.words).kept }
-        ensures booted { IfOk result (λ b. state_in (words_after_crash memory.now.words) b
-            ≡ booted_world layout (words_in from len memory.now.words)) }
+        ensures booted { IfOk result (IsBlockBooted layout from len memory.now.words) }
         ensures well { IfOk result (IsWellIn (words_after_crash memory.now.words)) }
         ensures from { IfOk result (λ b. b.from ≡ from) }
         ensures len { IfOk result (λ b. b.len ≡ len) }
@@ -129,8 +126,7 @@ impl Block {
         len: usize,
         port: usize,
     ) -> Self
-        ensures state { (ws : Words) → state_in ws result
-            ≡ record (world_over layout (words_in from len ws)) { recovery = Some boot_recovery } }
+        ensures state { (ws : Words) → state_in ws result ≡ world_to_recover layout (words_in from len ws) }
         ensures well { IsWellWhereUnused layout from len port result }
         ensures from { result.from ≡ from }
         ensures len { result.len ≡ len }
@@ -281,8 +277,7 @@ impl Block {
         requires asked { IsAskedIn memory.old self.old }
         requires from { self.old.from ≤ word }
         requires len { word < self.old.from + self.old.len }
-        ensures state { state_in memory.new.words self.new
-            ≡ after_evict (state_in memory.old.words self.old) (word - self.old.from) }
+        ensures state { state_in memory.new.words self.new ≡ state_evicted_in memory.old.words word self.old }
         ensures words { IsSameWords (words_after_eviction word memory.old.words) memory.new.words }
         ensures result { result ≡ Ok (change_of memory.old.words word) }
         ensures within { IsWithinBlock memory.old self.old memory.new self.new }

@@ -1,10 +1,8 @@
 //! A broker that begins on what a memory keeps.
 
 ghost use Rattle.std.specs.Prelude.{◌≡◌, ◌≢◌, ◌↔◌, ◌⊎◌, ◌<◌, ◌≤◌, ◌+◌, ℕ, true, length, replicate, slice_set, Ok, Err, IfOk, IfErr, OnOk, OnErr, IfSome, IfNone, IsSome, None, if◌then◌else◌};
-ghost use Rattle.arena.specs.Broker.{block_in, broker_size_in};
-ghost use Rattle.arena.specs.Shape.{shape_of};
-ghost use Rattle.sound_words.specs.Sound.{AreSoundWordsIn, IsDamagedIn};
-ghost use Rattle.named.specs.Booting.{AreBootWords, AreBootWordsIn, AreRead, AreReadIn, IsBlockDamagedIn, IsBooted, MayRefuse};
+ghost use Rattle.arena.specs.Broker.{broker_size_in};
+ghost use Rattle.named.specs.Booting.{AreBootWords, AreBootWordsIn, AreRead, AreReadIn, IsBlockDamagedIn, IsBooted, IsDamagedFor, IsSoundFor, MayRefuse};
 ghost use Rattle.named.specs.Promises.{KeepsPromises};
 
 use crate::broker::Broker;
@@ -29,10 +27,8 @@ fn check_block(
     requires slot { slot.0 < SLOTS }
     requires room { broker_size_in form layout.now ≤ length memory.now.words.cached }
     requires kept { broker_size_in form layout.now ≤ length memory.now.words.kept }
-    ensures sound { OnOk result
-        (AreSoundWordsIn form (shape_of kind layout.now) (block_in form layout.now slot.0 memory.now.words.kept)) }
-    ensures damaged { IfErr result
-        (IsDamagedIn form (shape_of kind layout.now) (block_in form layout.now slot.0 memory.now.words.kept)) }
+    ensures sound { OnOk result (IsSoundFor form layout.now kind slot.0 memory.now.words.kept) }
+    ensures damaged { IfErr result (IsDamagedFor form layout.now kind slot.0 memory.now.words.kept) }
 {
     let block = memory.view(layout.block_in(form, slot), layout.block_size_in(form))?;
     sound_queue(form, &layout.queue(kind), &block)
@@ -63,7 +59,7 @@ impl Broker {
         ensures errors { IfErr result (λ e. e ≡ Refusal.NoMemory) }
         ensures promises { IfOk result KeepsPromises }
     {
-        let slots = boot_each(alloc, kept, &memory)?;
+        let slots = boot_each(Vec::new(alloc), kept, &memory)?;
         Ok(Broker {
             layout: kept.layout,
             memory,
@@ -73,6 +69,7 @@ impl Broker {
             recovery: Some(BrokerRecovery::ReadDirectory {
                 at: DirectoryRecovery::boot(),
             }),
+            spare: Vec::new(alloc),
         })
     }
 

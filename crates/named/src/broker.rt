@@ -1,8 +1,8 @@
 //! A broker of named queues.
 
 ghost use Rattle.std.specs.Prelude.{◌≡◌, ◌↔◌, ◌⊎◌, ◌<◌, ◌≤◌, length, replicate, slice_set, Err, IfOk, IfErr, OnOk};
-ghost use Rattle.arena.specs.Limits.{AreCounts};
-ghost use Rattle.named.specs.Brokers.{new_words, IsNew};
+ghost use Rattle.arena.specs.Limits.{AreBadRecords, AreCounts};
+ghost use Rattle.named.specs.Brokers.{counts_of, new_words, IsNew};
 ghost use Rattle.named.specs.declared.slot.Slot.TheVariants.{Closed};
 ghost use Rattle.named.specs.Promises.{KeepsPromises};
 
@@ -30,6 +30,9 @@ pub struct Broker {
     /// the first to find its queue.
     pub(crate) creation: Option<Creation>,
     pub(crate) recovery: Option<BrokerRecovery>,
+    /// An emptied list for the slots of the next renewal. It has no memory at first, and none after a renewal that was
+    /// refused. It says nothing of the broker.
+    pub(crate) spare: Vec<Slot>,
 }
 
 impl Model for Broker {
@@ -38,23 +41,11 @@ impl Model for Broker {
 
     ghost Value = { Brokered };
 
-    ghost view = { λ b. record {
-      counts = b.layout;
-      words = b.memory.words;
-      slots = b.slots.items;
-      directory = b.directory;
-      creation = b.creation;
-      recovery = b.recovery;
-    } };
+    ghost use Rattle.named.specs.BrokerView.{broker_view};
 
-    ghost invariant = { λ b. IsWellOver (record {
-      counts = b.layout;
-      words = b.memory.words;
-      slots = b.slots.items;
-      directory = b.directory;
-      creation = b.creation;
-      recovery = b.recovery;
-    }) b.memory };
+    ghost view = { broker_view };
+
+    ghost invariant = { λ b. IsWellOver (broker_view b) b.memory };
 }
 
 /// Stores a value in a word, and keeps it.
@@ -75,7 +66,7 @@ fn new_memory(
     clients: u32,
     records: u32,
 ) -> Result<Memory, Refusal>
-    requires counts { layout.now ≡ record { clients = clients; records = records } }
+    requires counts { layout.now ≡ counts_of clients records }
     ensures cached { IfOk result (λ memory. memory.words.cached ≡ new_words layout.now) }
     ensures kept { IfOk result (λ memory. memory.words.kept ≡ new_words layout.now) }
     ensures errors { IfErr result (λ e. e ≡ Refusal.NoMemory) }
@@ -93,11 +84,10 @@ impl Broker {
     /// that creations need. It is refused, in this order, where the clients are none or more (BadClients), where the
     /// records are (BadRecords), and for want of memory (NoMemory).
     pub fn make(alloc: Global, clients: u32, records: u32) -> Result<Self, Refusal>
-        ensures made { IfOk result (IsNew (record { clients = clients; records = records })) }
+        ensures made { IfOk result (IsNew (counts_of clients records)) }
         ensures counts { OnOk result (AreCounts clients records) }
         ensures bad_clients { result ≡ Err Refusal.BadClients ↔ ((clients ≡ 0) ⊎ (MAX_CLIENTS < clients)) }
-        ensures bad_records { result ≡ Err Refusal.BadRecords ↔
-            ((1 ≤ clients) × (clients ≤ MAX_CLIENTS) × ((records ≡ 0) ⊎ (MAX_RECORDS < records))) }
+        ensures bad_records { result ≡ Err Refusal.BadRecords ↔ AreBadRecords clients records }
         ensures errors { IfErr result (λ e. (e ≡ Refusal.BadClients) ⊎ (e ≡ Refusal.BadRecords) ⊎
             (e ≡ Refusal.NoMemory)) }
         ensures promises { IfOk result KeepsPromises }
@@ -112,6 +102,7 @@ impl Broker {
             directory: Directory::new(),
             creation: None,
             recovery: None,
+            spare: Vec::new(alloc),
         })
     }
 }

@@ -1,5 +1,6 @@
 //! What holds over any list of a broker's acts: laws on its states, of which each clause asks what an act's contract
 //! says.
+// A law's clause begins with all that it speaks of, so some of them are longer than 120 columns.
 
 ghost use Rattle.std.specs.Prelude.{◌≡◌, ℕ, Bool, Some, false, true};
 ghost use Rattle.directory.specs.Directory.{HasQueue};

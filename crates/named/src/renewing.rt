@@ -1,6 +1,7 @@
 //! Queues in fresh records: of a broker that begins on what another keeps, and of one at rest.
 
 ghost use Rattle.std.specs.Prelude.{◌≡◌, ◌≤◌, ◌<◌, ℕ, Err, IfErr, IfOk, OnErr, OnOk};
+ghost use Rattle.named.specs.Brokers.{counts_of};
 ghost use Rattle.named.specs.Promises.{KeepsPromises};
 ghost use Rattle.named.specs.Renewing.{DoesNotFit, HasRoomInEach, IsAnewFor, IsRenewed, IsRenewedAt, IsWhyNotRenewedAt, IsWhyUnrenewed, MayRenew};
 ghost use Rattle.notes.specs.Noting.{HasNoted};
@@ -33,11 +34,9 @@ impl Broker {
     /// or more than 16 (BadClients), where the records are none or more than 4,096 (BadRecords), where the items of a
     /// queue do not fit beside two records of each client (NoRoom), and for want of memory (NoMemory).
     pub fn renewed(self, clients: u32, records: u32) -> Result<Self, Refusal>
-        ensures renewed { IfOk result (IsRenewed self.words.kept (record { clients = clients; records = records })) }
-        ensures errors { IfErr result
-            (IsWhyUnrenewed self.words.kept (record { clients = clients; records = records })) }
-        ensures no_room { DoesNotFit self.words.kept (record { clients = clients; records = records })
-            → result ≡ Err Refusal.NoRoom }
+        ensures renewed { IfOk result (IsRenewed self.words.kept (counts_of clients records)) }
+        ensures errors { IfErr result (IsWhyUnrenewed self.words.kept (counts_of clients records)) }
+        ensures no_room { DoesNotFit self.words.kept (counts_of clients records) → result ≡ Err Refusal.NoRoom }
         ensures promises { IfOk result KeepsPromises }
     {
         let alloc = *self.slots.allocator();
@@ -63,8 +62,17 @@ impl Broker {
         Broker::begin(alloc, &kept, renewed)
     }
 
-    /// What [`Broker::renew`] puts in place of what is there, and nothing has changed yet. It is refused as that is.
-    fn prepared(&self, slot: SlotId) -> Result<Anew, Refusal>
+    /// Gives away the spare list, for a renewal to fill; an empty one is left.
+    fn take_spare(&mut self) -> Vec<Slot>
+        ensures { self.new ≡ self.old }
+    {
+        let alloc = *self.slots.allocator();
+        replace(&mut self.spare, Vec::new(alloc))
+    }
+
+    /// What [`Broker::renew`] puts in place of what is there, its slots in this list, and nothing has changed yet. It is
+    /// refused as that is.
+    fn prepared(&self, slot: SlotId, list: Vec<Slot>) -> Result<Anew, Refusal>
         ensures may { OnOk result (MayRenew self.now slot.0) }
         ensures anew { IfOk result (λ anew. IsAnewFor self.now slot.0 anew.slots.items anew.block) }
         ensures errors { IfErr result (IsWhyNotRenewedAt self.now slot.0) }
@@ -82,13 +90,14 @@ impl Broker {
         }
         let alloc = *self.slots.allocator();
         let block = fresh_queue(alloc, &kept, &self.memory, slot)?;
-        let mut slots = boot_each(alloc, &kept, &self.memory)?;
+        let mut slots = boot_each(list, &kept, &self.memory)?;
         reserve_each(&mut slots, 1)?;
         Ok(Anew { slots, block })
     }
 
-    /// Begins anew on this. Nothing is refused any more. The histories that begin take the room of those that end, so that
-    /// renewals take no more memory from one to the next, whichever thread makes them.
+    /// Begins anew on this. Nothing is refused any more. The histories that begin take the room of those that end, and
+    /// the list of slots is kept for the next renewal. So renewals with none refused between them take no more memory
+    /// from one to the next, whichever thread makes them.
     fn begin_anew(&mut self, slot: SlotId, anew: Anew)
         requires may { MayRenew self.old slot.0 }
         requires anew { IsAnewFor self.old slot.0 anew.slots.items anew.block }
@@ -98,8 +107,9 @@ impl Broker {
     {
         let Anew { slots, block } = anew;
         self.memory.rewrite(self.layout.block(slot), &block);
-        let ended = replace(&mut self.slots, slots);
-        take_rooms(&mut self.slots, ended, 1);
+        let mut ended = replace(&mut self.slots, slots);
+        take_rooms(&mut self.slots, &mut ended, 1);
+        self.spare = ended;
         self.recovery = Some(BrokerRecovery::ReadDirectory {
             at: DirectoryRecovery::boot(),
         });
@@ -119,7 +129,8 @@ impl Broker {
         ensures same { OnErr result (self.new ≡ self.old) }
         ensures promises { KeepsPromises self.new }
     {
-        let anew = self.prepared(slot)?;
+        let list = self.take_spare();
+        let anew = self.prepared(slot, list)?;
         self.begin_anew(slot, anew);
         Ok(())
     }
@@ -143,7 +154,8 @@ impl Broker {
         ensures unnoted { OnErr result (notes.new ≡ notes.old) }
         ensures promises { KeepsPromises self.new }
     {
-        let anew = self.prepared(slot)?;
+        let list = self.take_spare();
+        let anew = self.prepared(slot, list)?;
         let from = self.layout.block(slot);
         if notes
             .note_rewrite(&self.memory, from, &anew.block, more)

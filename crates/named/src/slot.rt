@@ -8,17 +8,16 @@ ghost use Rattle.persist.specs.Noted.{answer_in, change_in, IsNoted};
 ghost use Rattle.persist.specs.declared.memory.TheConstants.{PORTS};
 ghost use Rattle.persist.specs.Memory.{Words, words_after_crash, words_after_eviction};
 ghost use Rattle.sound_words.specs.Sound.{AreSoundWords};
-ghost use Rattle.interleave.specs.Calls.{is_no_memory};
-ghost use Rattle.interleave.specs.Rules.{starting, stepping};
-ghost use Rattle.interleave.specs.State.{after_stop, after_recover, recover_result};
+ghost use Rattle.interleave.specs.Rules.{recovering, starting, stepping};
+ghost use Rattle.interleave.specs.State.{after_stop};
 ghost use Rattle.named.specs.Blocks.{IsSameWords};
-ghost use Rattle.named.specs.Booting.{block_booted};
-ghost use Rattle.named.specs.Brokers.{IsSlotAt, IsSlotWhereUnused, block_words, block_world};
+ghost use Rattle.named.specs.Booting.{IsQueueBooted};
+ghost use Rattle.named.specs.Brokers.{IsSlotWhereUnused, block_words, block_world};
 ghost use Rattle.named.specs.Each.{HasMoreRoom, HasOtherRoom};
 ghost use Rattle.named.specs.Rotating.{has_calls_in, IsBaseIn, IsBegunAnew, IsQuietIn};
 ghost use Rattle.named.specs.Stopping.{recovering_world};
 ghost use Rattle.named.specs.declared.slot.Slot.TheVariants.{Closed, Open};
-ghost use Rattle.named.specs.Slots.{acted, answered, kind_in, room_in, world_evicted_in, world_in, AreEffectsFew, AskAlikeBesideSlot, HasEmptyHistory, HasRoomFor, IsAsReady, IsEvictedOutside, IsReadyIn, IsActInSlot, IsAloneInSlot, IsSameOutsideSlot, IsSameSlot, IsSlotAsked, IsSlotWell, IsWhyUnread, IsWithinSlot, IsWordOf};
+ghost use Rattle.named.specs.Slots.{acted, kind_in, room_in, world_evicted_in, world_in, AreEffectsFew, AskAlikeBesideSlot, HasEmptyHistory, HasRoomFor, IsAsReady, IsEvictedOutside, IsReadyIn, IsActInSlot, IsAloneInSlot, IsSameOutsideSlot, IsSameSlot, IsSlotAsked, IsSlotWell, IsWhyUnread, IsWithinSlot, IsWordOf};
 
 use crate::block::Block;
 use arena::{BrokerLayout, SLOTS, SlotId};
@@ -176,10 +175,7 @@ impl Slot {
         requires kept { broker_size layout.now ≤ length memory.now.words.kept }
         requires sound { AreSoundWords (shape_of kind layout.now)
             (block_words layout.now slot.0 memory.now.words).kept }
-        ensures kind { IfOk result (λ s. kind_in s ≡ Some kind) }
-        ensures world { IfOk result (λ s. world_in (words_after_crash memory.now.words) s
-            ≡ Some (block_booted layout.now kind slot.0 memory.now.words)) }
-        ensures at { IfOk result (IsSlotAt layout.now (words_after_crash memory.now.words) slot.0) }
+        ensures booted { IfOk result (IsQueueBooted layout.now memory.now.words slot.0 kind) }
         ensures errors { IfErr result (λ e. e ≡ Refusal.NoMemory) }
     {
         let from = layout.block(slot);
@@ -235,13 +231,8 @@ impl Slot {
     pub(crate) fn recover_step(&mut self, memory: &mut Memory) -> Result<Noted<bool>, Refusal>
         requires well { IsSlotWell memory.old.words self.old }
         requires asked { IsSlotAsked memory.old self.old }
-        ensures world { world_in memory.new.words self.new
-            ≡ acted (after_recover (is_no_memory (answer_in result))) (world_in memory.old.words self.old) }
-        ensures result { answer_in result
-            ≡ answered (recover_result (is_no_memory (answer_in result))) (world_in memory.old.words self.old) }
-        ensures full { is_no_memory (answer_in result) ≡ true → room_in self.old ≡ 0 }
-        ensures room { room_in self.old ≤ room_in self.new + 1 }
-        ensures spare { IfErr (answer_in result) (λ e. room_in self.old ≤ room_in self.new) }
+        ensures act { IsActInSlot recovering memory.old.words self.old (answer_in result)
+            memory.new.words self.new }
         ensures stays { answer_in result ≡ Ok false → room_in self.old ≤ room_in self.new }
         ensures well { IsSlotWell memory.new.words self.new }
         ensures asked { IsSlotAsked memory.new self.new }

@@ -1,12 +1,12 @@
 //! The slots of a broker, one after the other.
 
-ghost use Rattle.std.specs.Prelude.{◌≡◌, ◌<◌, ◌≤◌, ◌+◌, ℕ, length, map, replicate, IfOk, IfErr, OnOk, OnErr};
+ghost use Rattle.std.specs.Prelude.{◌≡◌, ◌<◌, ◌≤◌, ◌+◌, ℕ, length, replicate, IfOk, IfErr, OnOk, OnErr};
 ghost use Rattle.std.specs.List.{list_any};
 ghost use Rattle.persist.specs.Memory.{Words, words_after_crash};
 ghost use Rattle.named.specs.Booting.{AreBootWords, AreKept, AreSlotsBooted, IsBootedBy};
 ghost use Rattle.named.specs.Each.{EachBecame, EachSlot, HasFullSlot, HasMoreRoom, HasOtherRoom, HasStopped};
 ghost use Rattle.named.specs.Slots.{AreEffectsFew, HasEmptyHistory, HasRoomFor};
-ghost use Rattle.named.specs.Rotating.{has_calls_in, AreBases, AreBegunAnew, AreQuiet};
+ghost use Rattle.named.specs.Rotating.{has_calls_in, items_of_each, AreBases, AreBegunAnew, AreQuiet};
 ghost use Rattle.named.specs.declared.slot.Slot.TheVariants.{Closed};
 
 use crate::slot::Slot;
@@ -56,9 +56,10 @@ fn boot_slot(
     }
 }
 
-/// The slots of a memory that a broker begins on. They take what is kept of it.
+/// The slots of a memory that a broker begins on. They take what is kept of it. The given list is emptied and filled:
+/// the list itself takes new memory only where it has no room for eight slots.
 pub(crate) fn boot_each(
-    alloc: Global,
+    mut slots: Vec<Slot>,
     kept: &KeptBroker,
     memory: &Memory,
 ) -> Result<Vec<Slot>, Refusal>
@@ -68,9 +69,14 @@ pub(crate) fn boot_each(
         AreSlotsBooted kept.now.layout memory.now.words kept.now.directory slots.items) }
     ensures errors { IfErr result (λ e. e ≡ Refusal.NoMemory) }
 {
-    let mut slots = closed_slots(alloc)?;
+    let alloc = *slots.allocator();
+    slots.clear();
+    if slots.reserve_exact(SLOTS).is_err() {
+        return Err(Refusal::NoMemory);
+    }
     for slot in 0..SLOTS {
-        slots[slot] = boot_slot(alloc, kept, SlotId(slot as u8), memory)?;
+        let booted = boot_slot(alloc, kept, SlotId(slot as u8), memory)?;
+        slots.push_reserved(booted);
     }
     Ok(slots)
 }
@@ -90,8 +96,8 @@ pub(crate) fn reserve_each(slots: &mut [Slot], acts: usize) -> Result<(), Refusa
 }
 
 /// The history of each open slot's queue, of which nothing happened yet, takes the room of that of the slot in its place
-/// among the others, which are let go.
-pub(crate) fn take_rooms(slots: &mut [Slot], mut others: Vec<Slot>, acts: usize)
+/// among the others, which are let go. What is left of those is their list.
+pub(crate) fn take_rooms(slots: &mut [Slot], others: &mut Vec<Slot>, acts: usize)
     requires empty { EachSlot HasEmptyHistory slots.old }
     requires room { EachSlot (HasRoomFor acts) slots.old }
     ensures same { EachBecame HasOtherRoom slots.old slots.new }
@@ -123,7 +129,7 @@ pub(crate) fn have_calls(slots: &[Slot]) -> bool
 /// What the next history of each slot's queue would begin with; of a closed one, nothing.
 pub(crate) fn prepare_each(slots: &Vec<Slot>, memory: &Memory) -> Result<Vec<Vec<Value>>, Refusal>
     requires { AreQuiet memory.now.words slots.now.items }
-    ensures bases { IfOk result (λ bases. AreBases memory.now.words slots.now.items (map (λ base. base.items) bases.items)) }
+    ensures bases { IfOk result (λ bases. AreBases memory.now.words slots.now.items (items_of_each bases.items)) }
     ensures errors { IfErr result (λ e. e ≡ Refusal.NoMemory) }
 {
     let alloc = *slots.allocator();
@@ -142,7 +148,7 @@ pub(crate) fn prepare_each(slots: &Vec<Slot>, memory: &Memory) -> Result<Vec<Vec
 /// The history of each open slot's queue ends, and another begins with its base.
 pub(crate) fn begin_each(slots: &mut [Slot], memory: &Memory, mut bases: Vec<Vec<Value>>)
     requires quiet { AreQuiet memory.now.words slots.old }
-    requires bases { AreBases memory.now.words slots.old (map (λ base. base.items) bases.items) }
+    requires bases { AreBases memory.now.words slots.old (items_of_each bases.items) }
     ensures { AreBegunAnew memory.now.words slots.old slots.new }
 {
     while let Some(base) = bases.pop() {

@@ -4,11 +4,11 @@ ghost use Rattle.std.specs.Prelude.{◌≡◌, ◌≢◌, ◌↔◌, ◌⊎◌, 
 ghost use Rattle.persist.specs.Noted.{answer_in, change_in, IsNoted};
 ghost use Rattle.interleave.specs.Calls.{is_no_memory};
 ghost use Rattle.interleave.specs.State.{crash_result};
-ghost use Rattle.directory.specs.Queue.{IsOpenSlot, slot_in};
+ghost use Rattle.directory.specs.Queue.{IsOpenSlot};
 ghost use Rattle.directory.specs.Directory.{Directory as AnyDirectory, HasQueue};
 ghost use Rattle.named.specs.Brokers.{Brokered, IsWell, room_at};
 ghost use Rattle.named.specs.Stopping.{HasFullQueue, IsDirectoryRead, IsFound, IsNext, IsQueueRecovered, IsReadOn};
-ghost use Rattle.named.specs.Stopping.{IsReadingDirectory, IsRecoveryStep, IsSameButRoom, IsStopped, MayReadOn, creation_after};
+ghost use Rattle.named.specs.Stopping.{IsKnownByKept, IsReadingDirectory, IsRecoveryStep, IsSameButRoom, IsStopped, MayReadOn, creation_after};
 ghost use Rattle.named.specs.GoingOn.{BrokerGoesOn, IsDowntime};
 ghost use Rattle.named.specs.Lasting.{left_after_read, most_kept, steps_left};
 ghost use Rattle.named.specs.Telling.{TellAtReady};
@@ -84,8 +84,7 @@ impl Broker {
         ensures same { self.new ≡ record self.old { slots = self.new.slots; directory = self.new.directory } }
         ensures found { IsFound self.old self.new opened }
         ensures rooms { (other : ℕ) → room_at self.old other ≤ room_at self.new other }
-        ensures known { IfSome opened (λ slot.
-            slice_get self.new.directory slot.0 ≡ Some (slot_in self.old.words.kept slot.0)) }
+        ensures known { IfSome opened (IsKnownByKept self.old.words.kept self.new.directory) }
         ensures well { IsWell self.new }
     {
         let Some(slot) = opened else {

@@ -1,10 +1,9 @@
 -- What a broker that begins on kept words is, and why it is refused.
-use Rattle.std.proofs.Common.{◌≡◌, ℕ, ◌+◌, ◌<◌, ◌≤◌, inl, inr, List, length, drop, replicate, slice_get, slice_set, slice_index, slice_index_or, true, false, Option, Some, None, Result, Ok, Err, refl, sym, ap, subst, ◌∙◌, arith}
+use Rattle.std.proofs.Common.{◌≡◌, ℕ, ◌+◌, ◌<◌, ◌≤◌, inl, inr, List, [], ◌∷◌, ◌++◌, length, drop, replicate, slice_get, slice_index, slice_index_or, true, false, Option, Some, None, Result, Ok, Err, refl, sym, ap, subst, ◌∙◌, arith}
 use Rattle.std.specs.Prelude.{IfOk, IsSome, is_some}
 use Rattle.std.specs.Option.{option_map}
 use Rattle.std.proofs.lemmas.List.{ext_get_or, get_or-replicate, length-drop, length-replicate, length-take}
 use Rattle.std.proofs.lemmas.Option.{slice_get-get_or, slice_get_within}
-use Rattle.std.proofs.lemmas.Bool.{cases_eq}
 use Rattle.words.specs.declared.call.Kind.{Kind}
 use Rattle.words.specs.declared.call.Kind.TheVariants.{Durable as durable_kind, Log as log_kind}
 use Rattle.words.specs.declared.refusal.Refusal.{Refusal}
@@ -18,6 +17,7 @@ use Rattle.arena.specs.Limits.{AreCounts}
 use Rattle.arena.specs.Shape.{Counts, Shape, shape_of}
 use Rattle.arena.proofs.Facts.{block_ends}
 use Rattle.arena.specs.declared.place.Place.{Place}
+use Rattle.events.proofs.Facts.{get_push_cases}
 use Rattle.sound_words.specs.Kept.{kept_in}
 use Rattle.sound_words.specs.Sound.{AnswersAreSound, AreSoundWords, EntriesAreSound, IfKind, Obeys, RowsAreSound}
 use Rattle.directory.specs.Directory.{Directory, IsDirectory}
@@ -28,7 +28,6 @@ use Rattle.directory.specs.declared.queue.Queue.{Queue}
 use Rattle.directory.proofs.Facts.{directory_at, recovery_begins, slot_open, sound_rest}
 use Rattle.interleave.specs.Booted.{booted_world}
 use Rattle.interleave.specs.State.{State}
-use Rattle.interleave.proofs.Facts.{get_set}
 use Rattle.named.specs.Blocks.{state_in}
 use Rattle.named.specs.Booting.{AreKept, AreRead, AreSlotsBooted, IsBooted, IsSlotBooted, kept_block, world_booted}
 use Rattle.named.specs.Brokers.{Brokered, IsSlotAt, IsUnusedBlock, IsWell, block_words, world_of}
@@ -36,7 +35,6 @@ use Rattle.named.specs.Slots.{IsReadyIn, kind_in, world_in}
 use Rattle.named.specs.Stopping.{booting}
 use Rattle.named.specs.declared.slot.Slot.{Slot}
 use Rattle.named.specs.declared.slot.Slot.TheVariants.{Closed, Open}
-use Rattle.named.proofs.acts.OneSlot.{get_set_other, some_is}
 
 -- sound words obey each rule
 rows_obeyed : (kind : Kind) (s : Shape) (kept : Place → ℕ) → AnswersAreSound kind s kept → IfKind durable_kind kind (RowsAreSound s kept)
@@ -58,15 +56,13 @@ obeyed s ws h Entries = entries_obeyed s.kind s (kept_in s ws) h.sound.answers
 obeyed s ws h Image = tt
 obeyed s ws h directory_rule = tt
 
--- what holds of each slot before this one, and of what is put there, holds of each slot before the next
-pub slots_more : (holds : ℕ → Slot → Type 0) (slots : List Slot) (n : ℕ) (own : Slot) → n < length slots
-    → ((at : ℕ) (slot : Slot) → at < n → slice_get slots at ≡ Some slot → holds at slot) → holds n own
-    → (at : ℕ) (slot : Slot) → at < n + 1 → slice_get (slice_set slots n own) at ≡ Some slot → holds at slot
-slots_more holds slots n own below before here at slot h there = elim (cases_eq at n) [
-  | inl same ↦
-      let is_it : slot ≡ own = some_is _ slot own there (ap (slice_get (slice_set slots n own)) same ∙ get_set slots n own below) in
-      subst (λ (x : Slot). holds at x) (sym is_it) (subst (λ (k : ℕ). holds k own) (sym same) here)
-  | inr apart ↦ before at slot (omega (arith, h, apart)) (sym (get_set_other slots n own at apart) ∙ there)
+-- what holds of each slot of a list, and of one put behind them, holds of each that is then there
+pub slots_more : (holds : ℕ → Slot → Type 0) (slots : List Slot) (own : Slot)
+    → ((at : ℕ) (slot : Slot) → slice_get slots at ≡ Some slot → holds at slot) → holds (length slots) own
+    → (at : ℕ) (slot : Slot) → slice_get (slots ++ own ∷ []) at ≡ Some slot → holds at slot
+slots_more holds slots own before here at slot there = elim (get_push_cases slots own at slot there) [
+  | inl old ↦ before at slot old
+  | inr last ↦ subst (λ (x : Slot). holds at x) last.1 (subst (λ (k : ℕ). holds k own) (sym last.0) here)
 ]
 
 -- where each word of a block is 0, so is the block

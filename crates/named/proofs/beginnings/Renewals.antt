@@ -27,11 +27,11 @@ use Rattle.interleave.specs.Booted.{booted_world}
 use Rattle.interleave.specs.State.{State}
 use Rattle.interleave.specs.Values.{value_of_place}
 use Rattle.interleave.proofs.Facts.{shown_at}
-use Rattle.renewal.specs.Broker.{IsBrokerRenewalOf, MayBeRenewedTo, broker_renewed}
+use Rattle.renewal.specs.Broker.{AllFit, IsBrokerRenewalOf, MayBeRenewedTo, broker_renewed}
 use Rattle.renewal.specs.Words.{IsRenewalOf}
 use Rattle.named.specs.Booting.{AreBootWords, AreRead, IsBooted, world_booted}
 use Rattle.named.specs.Brokers.{Brokered, block_words, world_at}
-use Rattle.named.specs.Renewing.{AllFit, AreCountsFor, AreToldAsBefore, BeginsRenewed, IsRenewed, IsWhyUnrenewed}
+use Rattle.named.specs.Renewing.{AreCountsFor, AreToldAsBefore, BeginsRenewed, IsRenewed, IsWhyUnrenewed}
 use Rattle.named.specs.Renewing.{told_of}
 use Rattle.named.proofs.beginnings.Migrations.{same_some, told_at_boot}
 
@@ -180,13 +180,13 @@ may_be_renewed ws counts directory to room sound counts_are directory_is clients
 
 -- why it refuses
 pub unfit : (old : List ℕ) (to : Counts) (e : Refusal) → AreCountsFor old to → (e ≡ NoRoom) ⊎ (e ≡ NoMemory)
-    → (e ≡ NoRoom → (AllFit old to → ⊥)) → IsWhyUnrenewed old to e
+    → (e ≡ NoRoom → (AllFit to old → ⊥)) → IsWhyUnrenewed old to e
 unfit old to e may (inl room) over = subst (IsWhyUnrenewed old to) (sym room) (may, over room)
 unfit old to e may (inr full) over = subst (IsWhyUnrenewed old to) (sym full) may
 
-pub unfit_as : (old was : List ℕ) (to counts : Counts) → was ≡ old → counts ≡ to → (AllFit old to → ⊥) → AllFit was counts → ⊥
+pub unfit_as : (old was : List ℕ) (to counts : Counts) → was ≡ old → counts ≡ to → (AllFit to old → ⊥) → AllFit counts was → ⊥
 unfit_as old was to counts same is over fit =
-    over (subst (λ (ws : List ℕ). AllFit ws to) same (subst (λ (c : Counts). AllFit was c) is fit))
+    over (subst (λ (ws : List ℕ). AllFit to ws) same (subst (λ (c : Counts). AllFit c was) is fit))
 
 -- a result is no success and a refusal at once
 pub not_both : {T : Type 0} (r : Result T Refusal) (x : T) (e : Refusal) → r ≡ Ok x → r ≡ Err e → ⊥

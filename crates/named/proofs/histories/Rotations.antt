@@ -1,5 +1,5 @@
 -- A rotation of a broker.
-use Rattle.std.proofs.Common.{◌≡◌, ℕ, zero, suc, ◌⊎◌, inl, inr, List, [], ◌∷◌, ◌++◌, length, slice_get, slice_index_or, slice_set, ◌+◌, ◌<◌, ◌≤◌, Option, None, Some, Bool, true, false, Result, Ok, Err, if◌then◌else◌, refl, sym, ap, subst, ◌∙◌, arith}
+use Rattle.std.proofs.Common.{◌≡◌, ℕ, zero, suc, inl, inr, List, [], ◌∷◌, ◌++◌, length, slice_get, slice_index_or, slice_set, ◌+◌, ◌<◌, ◌≤◌, Option, None, Some, Bool, true, false, Result, Ok, Err, if◌then◌else◌, refl, sym, ap, subst, ◌∙◌, arith}
 use Rattle.std.specs.Prelude.{IfErr, is_some, ◌||◌}
 use Rattle.std.specs.List.{list_any}
 use Rattle.std.proofs.lemmas.Bool.{cases_eq, cases_lt}
@@ -10,6 +10,7 @@ use Rattle.words.specs.declared.refusal.Refusal.{Refusal}
 use Rattle.words.specs.declared.refusal.Refusal.TheVariants.{NotReady, Busy, NoMemory}
 use Rattle.persist.specs.Memory.{Words}
 use Rattle.arena.specs.Shape.{Counts}
+use Rattle.events.proofs.Facts.{get_last, get_longer, get_push_cases}
 use Rattle.interleave.specs.Rotation.{after_rotation, rotate_result, some_client_calls}
 use Rattle.interleave.proofs.Facts.{get_set}
 use Rattle.named.specs.Blocks.{BlockState, state_in}
@@ -36,32 +37,16 @@ for_memory (Err e) ws block ready nobody refused =
     let same : Err NoMemory ≡ (let r : Result Unit Refusal = Err e in r) = sym (may_rotate true ws block ready nobody) ∙ refused in
     cc
 
-pub get_push : {X : Type 0} (xs : List X) (x : X) (at : ℕ) (y : X) → slice_get (xs ++ x ∷ []) at ≡ Some y
-    → (slice_get xs at ≡ Some y) ⊎ ((at ≡ length xs) × (y ≡ x))
-get_push [] x zero y e = inr (refl, cc)
-get_push [] x (suc at) y e = absurd (cc)
-get_push (z ∷ xs) x zero y e = inl e
-get_push (z ∷ xs) x (suc at) y e = elim (get_push xs x at y e) [ inl there ↦ inl there | inr last ↦ inr (ap suc last.0, last.1) ]
-
-pub get_last : {X : Type 0} (xs : List X) (x : X) → slice_get (xs ++ x ∷ []) (length xs) ≡ Some x
-get_last [] x = refl
-get_last (z ∷ xs) x = get_last xs x
-
-pub get_left : {X : Type 0} (xs : List X) (x : X) (at : ℕ) (y : X) → slice_get xs at ≡ Some y → slice_get (xs ++ x ∷ []) at ≡ Some y
-get_left [] x at y e = absurd (cc)
-get_left (z ∷ xs) x zero y e = e
-get_left (z ∷ xs) x (suc at) y e = get_left xs x at y e
-
 -- a base more
 pub bases_more : (ws : Words) (slots : List Slot) (bases : List (List Value)) (slot : Slot) (base : List Value)
     → ((at : ℕ) (s : Slot) (b : List Value) → slice_get slots at ≡ Some s → slice_get bases at ≡ Some b → IsBaseIn ws s b)
     → slice_get slots (length bases) ≡ Some slot → IsBaseIn ws slot base
     → (at : ℕ) (s : Slot) (b : List Value) → slice_get slots at ≡ Some s → slice_get (bases ++ base ∷ []) at ≡ Some b → IsBaseIn ws s b
-bases_more ws slots bases slot base each here own at s b there more = elim (get_push bases base at b more) [
+bases_more ws slots bases slot base each here own at s b there more = elim (get_push_cases bases base at b more) [
   | inl before ↦ each at s b there before
   | inr last ↦
       let same : slot ≡ s = some_is _ slot s here (subst (λ (n : ℕ). slice_get slots n ≡ Some s) last.0 there) in
-      subst (IsBaseIn ws s) (sym last.1) (subst (λ (x : Slot). IsBaseIn ws x base) same own)
+      subst (IsBaseIn ws s) last.1 (subst (λ (x : Slot). IsBaseIn ws x base) same own)
 ]
 
 -- the histories that end while there is a base left for each of the others: those of the slots past them ended
@@ -81,7 +66,7 @@ begun_more ws old bases new left base was is h here begun =
     record {
       count = set_long ∙ h.count;
       few = omega (arith, h.few, long);
-      bases_left = λ at b e. h.bases_left at b (get_left left base at b e);
+      bases_left = λ at b e. h.bases_left at b (get_longer left (base ∷ []) at b e);
       still = λ at below. get_set_other new (length left) is at (λ e. absurd (omega (arith, e, below))) ∙ h.still at (omega (arith, below, long));
       begun = λ at w i past there now. elim (cases_eq at (length left)) [
         | inl same ↦

@@ -6,6 +6,7 @@ use Rattle.directory.specs.Queue.{slot_in}
 use Rattle.directory.specs.declared.creation.Creation.{Creation}
 use Rattle.directory.specs.declared.recovery.DirectoryRecovery.{DirectoryRecovery}
 use Rattle.renewal.specs.OneQueue.{queue_renewed}
+use Rattle.named.specs.BrokerView.{broker_view}
 use Rattle.named.specs.Booting.{AreSlotsBooted, world_booted}
 use Rattle.named.specs.Brokers.{Brokered, IsWell, world_at}
 use Rattle.named.specs.Each.{EachBecame, EachSlot, HasOtherRoom}
@@ -23,7 +24,7 @@ use Rattle.named.proofs.histories.Room.{booted_elsewhere, booted_empty, room_in_
 use Rattle.named.proofs.broker.Broker.begin_anew.Goals as goal
 
 abbrev was : goal.After-drop-block-inside-3 → Brokered
-was c = record { counts = c.self.inside.layout; words = c.self.inside.memory.words; slots = c.self.inside.slots.items; directory = c.self.inside.directory; creation = c.self.inside.creation; recovery = c.self.inside.recovery }
+was c = broker_view c.self.inside
 
 abbrev new : goal.After-drop-block-inside-3 → List ℕ
 new c = queue_renewed c.args.slot.0 (was c).words.kept
@@ -85,7 +86,7 @@ worlds c at below =
 
 pub take_rooms-requires-clause-empty : goal.take_rooms-requires-clause-empty
 take_rooms-requires-clause-empty c =
-    let b : Brokered = record { counts = c.self.inside.layout; words = c.self.inside.memory.words; slots = c.self.inside.slots.items; directory = c.self.inside.directory; creation = c.self.inside.creation; recovery = c.self.inside.recovery } in
+    let b : Brokered = broker_view c.self.inside in
     let anew : IsAnewFor b c.args.slot.0 c.args.anew.slots.items c.args.anew.block =
     subst (λ (x : Brokered). IsAnewFor x c.args.slot.0 c.args.anew.slots.items c.args.anew.block) (sym c.self.view_is) c.requires.anew in
     let items : c.deref_mut.result.now ≡ c.args.anew.slots.items = c.deref_mut.ensures.value ∙ ap (λ (v : Vec Slot Global). v.items) c.replace-ended.ensures.after in

@@ -3,6 +3,7 @@ use Rattle.std.proofs.lemmas.List.{with_items_is}
 use Rattle.std.specs.Vec.{with_items}
 use Rattle.persist.specs.Memory.{Words, words_after_crash}
 use Rattle.interleave.specs.State.{after_stop}
+use Rattle.named.specs.BrokerView.{broker_view}
 use Rattle.named.specs.Slots.{acted}
 use Rattle.named.specs.Each.{EachBecame, HasMoreRoom, HasStopped}
 use Rattle.named.specs.Brokers.{Brokered, IsWell, room_at, room_of, world_at, world_of}
@@ -21,12 +22,12 @@ use Rattle.named.proofs.broker.Broker.crash.Goals as goal
 
 pub reserve_each-requires : goal.reserve_each-requires
 reserve_each-requires c =
-    let b : Brokered = record { counts = c.self.inside.layout; words = c.self.inside.memory.words; slots = c.self.inside.slots.items; directory = c.self.inside.directory; creation = c.self.inside.creation; recovery = c.self.inside.recovery } in
+    let b : Brokered = broker_view c.self.inside in
     λ at slot here. few_in_each b c.self.invariant.well at slot (subst (λ (l : List Slot). slice_get l at ≡ Some slot) c.deref_mut.ensures.value here)
 
 pub invariant_of-self : goal.invariant_of-self
 invariant_of-self c =
-    let b : Brokered = record { counts = c.self.inside.layout; words = c.self.inside.memory.words; slots = c.self.inside.slots.items; directory = c.self.inside.directory; creation = c.self.inside.creation; recovery = c.self.inside.recovery } in
+    let b : Brokered = broker_view c.self.inside in
     let more : List Slot = c.reserve_each.new.slots in
     let each : EachBecame HasMoreRoom b.slots more = subst (λ (l : List Slot). EachBecame HasMoreRoom l more) c.deref_mut.ensures.value c.reserve_each.ensures.same in
     let written : (with_items c.self.inside.slots more).items ≡ more = with_items_is c.self.inside.slots more (each.count ∙ sym c.self.inside.slots.ok.0) in
@@ -38,7 +39,7 @@ invariant_of-self c =
 
 pub returns-in_err-reserve_each-clause-same : goal.returns-in_err-reserve_each-clause-same
 returns-in_err-reserve_each-clause-same c =
-    let b : Brokered = record { counts = c.self.inside.layout; words = c.self.inside.memory.words; slots = c.self.inside.slots.items; directory = c.self.inside.directory; creation = c.self.inside.creation; recovery = c.self.inside.recovery } in
+    let b : Brokered = broker_view c.self.inside in
     let more : List Slot = c.reserve_each.new.slots in
     let each : EachBecame HasMoreRoom b.slots more = subst (λ (l : List Slot). EachBecame HasMoreRoom l more) c.deref_mut.ensures.value c.reserve_each.ensures.same in
     let written : (with_items c.self.inside.slots more).items ≡ more = with_items_is c.self.inside.slots more (each.count ∙ sym c.self.inside.slots.ok.0) in
@@ -50,7 +51,7 @@ returns-in_err-reserve_each-clause-same c =
 
 pub returns-in_err-reserve_each-clause-room : goal.returns-in_err-reserve_each-clause-room
 returns-in_err-reserve_each-clause-room c = λ at.
-    let b : Brokered = record { counts = c.self.inside.layout; words = c.self.inside.memory.words; slots = c.self.inside.slots.items; directory = c.self.inside.directory; creation = c.self.inside.creation; recovery = c.self.inside.recovery } in
+    let b : Brokered = broker_view c.self.inside in
     let more : List Slot = c.reserve_each.new.slots in
     let each : EachBecame HasMoreRoom b.slots more = subst (λ (l : List Slot). EachBecame HasMoreRoom l more) c.deref_mut.ensures.value c.reserve_each.ensures.same in
     let written : (with_items c.self.inside.slots more).items ≡ more = with_items_is c.self.inside.slots more (each.count ∙ sym c.self.inside.slots.ok.0) in
@@ -58,7 +59,7 @@ returns-in_err-reserve_each-clause-room c = λ at.
 
 pub returns-in_err-reserve_each-clause-spare : goal.returns-in_err-reserve_each-clause-spare
 returns-in_err-reserve_each-clause-spare c =
-    let b : Brokered = record { counts = c.self.inside.layout; words = c.self.inside.memory.words; slots = c.self.inside.slots.items; directory = c.self.inside.directory; creation = c.self.inside.creation; recovery = c.self.inside.recovery } in
+    let b : Brokered = broker_view c.self.inside in
     let more : List Slot = c.reserve_each.new.slots in
     let each : EachBecame HasMoreRoom b.slots more = subst (λ (l : List Slot). EachBecame HasMoreRoom l more) c.deref_mut.ensures.value c.reserve_each.ensures.same in
     let written : (with_items c.self.inside.slots more).items ≡ more = with_items_is c.self.inside.slots more (each.count ∙ sym c.self.inside.slots.ok.0) in
@@ -68,7 +69,7 @@ returns-in_err-reserve_each-clause-spare c =
 
 pub invariant_of-self-2 : goal.invariant_of-self-2
 invariant_of-self-2 c =
-    let b : Brokered = record { counts = c.self.inside.layout; words = c.self.inside.memory.words; slots = c.self.inside.slots.items; directory = c.self.inside.directory; creation = c.self.inside.creation; recovery = c.self.inside.recovery } in
+    let b : Brokered = broker_view c.self.inside in
     let more : List Slot = c.reserve_each.new.slots in
     let each : EachBecame HasMoreRoom b.slots more = subst (λ (l : List Slot). EachBecame HasMoreRoom l more) c.deref_mut.ensures.value c.reserve_each.ensures.same in
     let written : (with_items c.self.inside.slots more).items ≡ more = with_items_is c.self.inside.slots more (each.count ∙ sym c.self.inside.slots.ok.0) in
@@ -91,7 +92,7 @@ invariant_of-self-2 c =
 
 pub returns-clause-stopped : goal.returns-clause-stopped
 returns-clause-stopped c = λ ok.
-    let b : Brokered = record { counts = c.self.inside.layout; words = c.self.inside.memory.words; slots = c.self.inside.slots.items; directory = c.self.inside.directory; creation = c.self.inside.creation; recovery = c.self.inside.recovery } in
+    let b : Brokered = broker_view c.self.inside in
     let more : List Slot = c.reserve_each.new.slots in
     let each : EachBecame HasMoreRoom b.slots more = subst (λ (l : List Slot). EachBecame HasMoreRoom l more) c.deref_mut.ensures.value c.reserve_each.ensures.same in
     let written : (with_items c.self.inside.slots more).items ≡ more = with_items_is c.self.inside.slots more (each.count ∙ sym c.self.inside.slots.ok.0) in
@@ -113,7 +114,7 @@ returns-clause-stopped c = λ ok.
 
 pub returns-clause-room : goal.returns-clause-room
 returns-clause-room c = λ at.
-    let b : Brokered = record { counts = c.self.inside.layout; words = c.self.inside.memory.words; slots = c.self.inside.slots.items; directory = c.self.inside.directory; creation = c.self.inside.creation; recovery = c.self.inside.recovery } in
+    let b : Brokered = broker_view c.self.inside in
     let more : List Slot = c.reserve_each.new.slots in
     let each : EachBecame HasMoreRoom b.slots more = subst (λ (l : List Slot). EachBecame HasMoreRoom l more) c.deref_mut.ensures.value c.reserve_each.ensures.same in
     let written : (with_items c.self.inside.slots more).items ≡ more = with_items_is c.self.inside.slots more (each.count ∙ sym c.self.inside.slots.ok.0) in
@@ -132,7 +133,7 @@ returns-clause-promises c = promises_well _ (invariant_of-self-2 c).well
 
 pub returns-in_err-reserve_each-clause-goes_on : goal.returns-in_err-reserve_each-clause-goes_on
 returns-in_err-reserve_each-clause-goes_on c =
-    let b : Brokered = record { counts = c.self.inside.layout; words = c.self.inside.memory.words; slots = c.self.inside.slots.items; directory = c.self.inside.directory; creation = c.self.inside.creation; recovery = c.self.inside.recovery } in
+    let b : Brokered = broker_view c.self.inside in
     let more : List Slot = c.reserve_each.new.slots in
     let each : EachBecame HasMoreRoom b.slots more = subst (λ (l : List Slot). EachBecame HasMoreRoom l more) c.deref_mut.ensures.value c.reserve_each.ensures.same in
     let written : (with_items c.self.inside.slots more).items ≡ more = with_items_is c.self.inside.slots more (each.count ∙ sym c.self.inside.slots.ok.0) in

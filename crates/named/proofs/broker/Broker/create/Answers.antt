@@ -2,6 +2,7 @@ use Rattle.std.proofs.Common.{rules, ◌≡◌, Some, None, sym, ap, ◌∙◌, 
 use Rattle.directory.specs.Directory.{HasName}
 use Rattle.directory.specs.declared.creation.Creation.{Creation}
 use Rattle.directory.specs.declared.queue.Queue.{Queue}
+use Rattle.named.specs.BrokerView.{broker_view}
 use Rattle.named.specs.Brokers.{Brokered, IsWell}
 use Rattle.named.proofs.creations.Beginnings.{begun_well}
 use Rattle.named.proofs.acts.Continuity.{begun_goes_on, broker_stays}
@@ -12,7 +13,7 @@ use Rattle.named.proofs.broker.Broker.create.Goals as goal
 
 pub invariant_of-self : goal.invariant_of-self
 invariant_of-self c =
-    let b : Brokered = record { counts = c.self.inside.layout; words = c.self.inside.memory.words; slots = c.self.inside.slots.items; directory = c.self.inside.directory; creation = c.self.inside.creation; recovery = c.self.inside.recovery } in
+    let b : Brokered = broker_view c.self.inside in
     let ready : c.self.inside.recovery ≡ None = ap (λ (x : Brokered). x.recovery) c.self.view_is ∙ ready_there c.args.self.now.recovery c.check_ready.result c.check_ready.ensures c.in_ok-check_ready.was in
     let idle : c.self.inside.creation ≡ None = search rules in
     let is_new : HasName c.self.inside.directory c.in_ok-name.name → ⊥ = search rules in

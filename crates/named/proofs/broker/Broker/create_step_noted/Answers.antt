@@ -13,6 +13,7 @@ use Rattle.directory.specs.Creation.{access_of, successor}
 use Rattle.directory.specs.Step.{after_one, at_word, change_by}
 use Rattle.directory.specs.declared.creation.Creation.{Creation}
 use Rattle.interleave.specs.State.{world_over}
+use Rattle.named.specs.BrokerView.{broker_view}
 use Rattle.named.specs.Brokers.{Brokered, IsOpened, IsStepCreated, IsWell, block_words, quiet, room_at, words_created}
 use Rattle.named.specs.Brokers.{world_at, world_of}
 use Rattle.named.proofs.creations.Steps.{others_done, others_more, rest, room_now, rooms_opened, unused, well_done}
@@ -29,7 +30,7 @@ use Rattle.named.proofs.broker.Broker.create_step_noted.Goals as goal
 
 pub invariant_of-self : goal.invariant_of-self
 invariant_of-self c =
-    let b : Brokered = record { counts = c.self.inside.layout; words = c.self.inside.memory.words; slots = c.self.inside.slots.items; directory = c.self.inside.directory; creation = c.self.inside.creation; recovery = c.self.inside.recovery } in
+    let b : Brokered = broker_view c.self.inside in
     let k : Creation = c.in-Some.creation in
     let ready : c.self.inside.recovery ≡ None = ap (λ (x : Brokered). x.recovery) c.self.view_is ∙ ready_there c.args.self.now.recovery c.check_ready.result c.check_ready.ensures c.in_ok-check_ready.was in
     let is : c.self.inside.creation ≡ Some c.in-Some.creation = cc (c.in-Some.is) in
@@ -44,7 +45,7 @@ invariant_of-self c =
 
 pub returns-in-More-clause-others : goal.returns-in-More-clause-others
 returns-in-More-clause-others c = λ other yes.
-    let b : Brokered = record { counts = c.self.inside.layout; words = c.self.inside.memory.words; slots = c.self.inside.slots.items; directory = c.self.inside.directory; creation = c.self.inside.creation; recovery = c.self.inside.recovery } in
+    let b : Brokered = broker_view c.self.inside in
     let k : Creation = c.in-Some.creation in
     let ready : c.self.inside.recovery ≡ None = ap (λ (x : Brokered). x.recovery) c.self.view_is ∙ ready_there c.args.self.now.recovery c.check_ready.result c.check_ready.ensures c.in_ok-check_ready.was in
     let is : c.self.inside.creation ≡ Some c.in-Some.creation = cc (c.in-Some.is) in
@@ -53,7 +54,7 @@ returns-in-More-clause-others c = λ other yes.
 
 pub invariant_of-self-in-Done : goal.invariant_of-self-in-Done
 invariant_of-self-in-Done c =
-    let b : Brokered = record { counts = c.self.inside.layout; words = c.self.inside.memory.words; slots = c.self.inside.slots.items; directory = c.self.inside.directory; creation = c.self.inside.creation; recovery = c.self.inside.recovery } in
+    let b : Brokered = broker_view c.self.inside in
     let k : Creation = c.in-Some.creation in
     let ready : c.self.inside.recovery ≡ None = ap (λ (x : Brokered). x.recovery) c.self.view_is ∙ ready_there c.args.self.now.recovery c.check_ready.result c.check_ready.ensures c.in_ok-check_ready.was in
     let is : c.self.inside.creation ≡ Some c.in-Some.creation = cc (c.in-Some.is) in
@@ -78,7 +79,7 @@ invariant_of-self-in-Done c =
 
 pub returns-in-Done-clause-others : goal.returns-in-Done-clause-others
 returns-in-Done-clause-others c = λ other ne.
-    let b : Brokered = record { counts = c.self.inside.layout; words = c.self.inside.memory.words; slots = c.self.inside.slots.items; directory = c.self.inside.directory; creation = c.self.inside.creation; recovery = c.self.inside.recovery } in
+    let b : Brokered = broker_view c.self.inside in
     let k : Creation = c.in-Some.creation in
     let ready : c.self.inside.recovery ≡ None = ap (λ (x : Brokered). x.recovery) c.self.view_is ∙ ready_there c.args.self.now.recovery c.check_ready.result c.check_ready.ensures c.in_ok-check_ready.was in
     let is : c.self.inside.creation ≡ Some c.in-Some.creation = cc (c.in-Some.is) in
@@ -91,7 +92,7 @@ returns-in-Done-clause-others c = λ other ne.
 
 pub returns-in-Done-clause-step : goal.returns-in-Done-clause-step
 returns-in-Done-clause-step c = λ _.
-    let b : Brokered = record { counts = c.self.inside.layout; words = c.self.inside.memory.words; slots = c.self.inside.slots.items; directory = c.self.inside.directory; creation = c.self.inside.creation; recovery = c.self.inside.recovery } in
+    let b : Brokered = broker_view c.self.inside in
     let k : Creation = c.in-Some.creation in
     let ready : c.self.inside.recovery ≡ None = ap (λ (x : Brokered). x.recovery) c.self.view_is ∙ ready_there c.args.self.now.recovery c.check_ready.result c.check_ready.ensures c.in_ok-check_ready.was in
     let is : c.self.inside.creation ≡ Some c.in-Some.creation = cc (c.in-Some.is) in
@@ -136,7 +137,7 @@ returns-in_default-clause-goes_on c = broker_stays _
 
 pub returns-in-More-clause-goes_on : goal.returns-in-More-clause-goes_on
 returns-in-More-clause-goes_on c =
-    let b : Brokered = record { counts = c.self.inside.layout; words = c.self.inside.memory.words; slots = c.self.inside.slots.items; directory = c.self.inside.directory; creation = c.self.inside.creation; recovery = c.self.inside.recovery } in
+    let b : Brokered = broker_view c.self.inside in
     let k : Creation = c.in-Some.creation in
     let ready : c.self.inside.recovery ≡ None = ap (λ (x : Brokered). x.recovery) c.self.view_is ∙ ready_there c.args.self.now.recovery c.check_ready.result c.check_ready.ensures c.in_ok-check_ready.was in
     let is : c.self.inside.creation ≡ Some k = cc (c.in-Some.is) in

@@ -3,6 +3,7 @@ use Rattle.std.proofs.lemmas.Option.{slice_get_read, slice_get_within}
 use Rattle.std.proofs.lemmas.Bool.{cases_eq}
 use Rattle.persist.specs.Memory.{Words, seen_whole, words_after_eviction}
 use Rattle.interleave.proofs.Facts.{get_set}
+use Rattle.named.specs.BrokerView.{broker_view}
 use Rattle.named.specs.Evicting.{IsInNoBlock, world_evicted}
 use Rattle.named.specs.Slots.{acted}
 use Rattle.named.specs.Brokers.{Brokered, IsWell, room_at, room_of, world_at, world_of}
@@ -20,7 +21,7 @@ use Rattle.named.proofs.broker.Broker.evict.Goals as goal
 
 pub evict-requires-clause-well : goal.evict-requires-clause-well
 evict-requires-clause-well c =
-    let b : Brokered = record { counts = c.self.inside.layout; words = c.self.inside.memory.words; slots = c.self.inside.slots.items; directory = c.self.inside.directory; creation = c.self.inside.creation; recovery = c.self.inside.recovery } in
+    let b : Brokered = broker_view c.self.inside in
     let i = c.in-Some.slot.0 in
     let was = c.index_mut.result.now in
     let here = slice_get_read b.slots 8 i was (sym c.self.invariant.well.count) c.in-Some.ensures.in_range c.index_mut.ensures.value in
@@ -28,14 +29,14 @@ evict-requires-clause-well c =
 
 pub evict-requires-clause-asked : goal.evict-requires-clause-asked
 evict-requires-clause-asked c =
-    let b : Brokered = record { counts = c.self.inside.layout; words = c.self.inside.memory.words; slots = c.self.inside.slots.items; directory = c.self.inside.directory; creation = c.self.inside.creation; recovery = c.self.inside.recovery } in
+    let b : Brokered = broker_view c.self.inside in
     let was = c.index_mut.result.now in
     let here = slice_get_read b.slots 8 c.in-Some.slot.0 was (sym c.self.invariant.well.count) c.in-Some.ensures.in_range c.index_mut.ensures.value in
     slot_asked_here b c.self.inside.memory c.in-Some.slot.0 was c.self.invariant here
 
 pub evict-requires-clause-block : goal.evict-requires-clause-block
 evict-requires-clause-block c =
-    let b : Brokered = record { counts = c.self.inside.layout; words = c.self.inside.memory.words; slots = c.self.inside.slots.items; directory = c.self.inside.directory; creation = c.self.inside.creation; recovery = c.self.inside.recovery } in
+    let b : Brokered = broker_view c.self.inside in
     let i = c.in-Some.slot.0 in
     let was = c.index_mut.result.now in
     let here = slice_get_read b.slots 8 i was (sym c.self.invariant.well.count) c.in-Some.ensures.in_range c.index_mut.ensures.value in
@@ -43,7 +44,7 @@ evict-requires-clause-block c =
 
 pub invariant_of-self : goal.invariant_of-self
 invariant_of-self c =
-    let b : Brokered = record { counts = c.self.inside.layout; words = c.self.inside.memory.words; slots = c.self.inside.slots.items; directory = c.self.inside.directory; creation = c.self.inside.creation; recovery = c.self.inside.recovery } in
+    let b : Brokered = broker_view c.self.inside in
     let i = c.in-Some.slot.0 in
     let was = c.index_mut.result.now in
     let here = slice_get_read b.slots 8 i was (sym c.self.invariant.well.count) c.in-Some.ensures.in_range c.index_mut.ensures.value in
@@ -58,7 +59,7 @@ invariant_of-self c =
 
 pub returns-in-Some-clause-worlds : goal.returns-in-Some-clause-worlds
 returns-in-Some-clause-worlds c = λ slot.
-    let b : Brokered = record { counts = c.self.inside.layout; words = c.self.inside.memory.words; slots = c.self.inside.slots.items; directory = c.self.inside.directory; creation = c.self.inside.creation; recovery = c.self.inside.recovery } in
+    let b : Brokered = broker_view c.self.inside in
     let i = c.in-Some.slot.0 in
     let was = c.index_mut.result.now in
     let here = slice_get_read b.slots 8 i was (sym c.self.invariant.well.count) c.in-Some.ensures.in_range c.index_mut.ensures.value in
@@ -67,7 +68,7 @@ returns-in-Some-clause-worlds c = λ slot.
 
 pub returns-in-Some-clause-room : goal.returns-in-Some-clause-room
 returns-in-Some-clause-room c = λ slot.
-    let b : Brokered = record { counts = c.self.inside.layout; words = c.self.inside.memory.words; slots = c.self.inside.slots.items; directory = c.self.inside.directory; creation = c.self.inside.creation; recovery = c.self.inside.recovery } in
+    let b : Brokered = broker_view c.self.inside in
     let i = c.in-Some.slot.0 in
     let was = c.index_mut.result.now in
     let here = slice_get_read b.slots 8 i was (sym c.self.invariant.well.count) c.in-Some.ensures.in_range c.index_mut.ensures.value in
@@ -80,7 +81,7 @@ returns-in-Some-clause-room c = λ slot.
 
 pub invariant_of-self-in-None : goal.invariant_of-self-in-None
 invariant_of-self-in-None c =
-    let b : Brokered = record { counts = c.self.inside.layout; words = c.self.inside.memory.words; slots = c.self.inside.slots.items; directory = c.self.inside.directory; creation = c.self.inside.creation; recovery = c.self.inside.recovery } in
+    let b : Brokered = broker_view c.self.inside in
     let new = c.evict-in-None.new.self in
     let outside : IsInNoBlock b.counts c.args.word = search rules in
     let asked = lent_alike 0 0 c.self.inside.memory new c.evict-in-None.ensures.lent in
@@ -100,7 +101,7 @@ invariant_of-self-in-None c =
 
 pub returns-in-None-clause-worlds : goal.returns-in-None-clause-worlds
 returns-in-None-clause-worlds c = λ slot.
-    let b : Brokered = record { counts = c.self.inside.layout; words = c.self.inside.memory.words; slots = c.self.inside.slots.items; directory = c.self.inside.directory; creation = c.self.inside.creation; recovery = c.self.inside.recovery } in
+    let b : Brokered = broker_view c.self.inside in
     let outside : IsInNoBlock b.counts c.args.word = search rules in
     let go : IsInNoBlock b.counts c.args.word → world_of c.evict-in-None.new.self.words (slice_get b.slots slot) ≡ acted (world_evicted b.counts slot c.args.word) (world_at b slot) = elim [
       | inl low ↦ ap (λ (w : Words). world_of w (slice_get b.slots slot)) (c.evict-in-None.ensures.done (omega (arith, low, c.self.invariant.well.room.cached))) ∙ worlds_before b c.args.word c.self.invariant.well low slot
@@ -115,7 +116,7 @@ returns-in-None-clause-promises c = promises_well _ (invariant_of-self-in-None c
 
 pub returns-in-Some-clause-left : goal.returns-in-Some-clause-left
 returns-in-Some-clause-left c =
-    let b : Brokered = record { counts = c.self.inside.layout; words = c.self.inside.memory.words; slots = c.self.inside.slots.items; directory = c.self.inside.directory; creation = c.self.inside.creation; recovery = c.self.inside.recovery } in
+    let b : Brokered = broker_view c.self.inside in
     let new : Brokered = record b { words = c.evict.new.memory.words; slots = slice_set b.slots c.in-Some.slot.0 c.evict.new.self } in
     let kept : new.words.kept ≡ (words_after_eviction c.args.word c.args.self.now.words).kept = c.evict.ensures.words.kept ∙ ap (λ (x : Brokered). (words_after_eviction c.args.word x.words).kept) c.self.view_is in
     left_evicted c.args.self.now new c.args.word (subst IsWell c.self.view_is c.self.invariant.well)
@@ -123,14 +124,14 @@ returns-in-Some-clause-left c =
 
 pub returns-in-Some-clause-downtime : goal.returns-in-Some-clause-downtime
 returns-in-Some-clause-downtime c =
-    let b : Brokered = record { counts = c.self.inside.layout; words = c.self.inside.memory.words; slots = c.self.inside.slots.items; directory = c.self.inside.directory; creation = c.self.inside.creation; recovery = c.self.inside.recovery } in
+    let b : Brokered = broker_view c.self.inside in
     let new : Brokered = record b { words = c.evict.new.memory.words; slots = slice_set b.slots c.in-Some.slot.0 c.evict.new.self } in
     eviction_downtime c.args.self.now new c.args.word (subst IsWell c.self.view_is c.self.invariant.well)
     (ap (λ (x : Brokered). let y : Brokered = record x { words = new.words; slots = new.slots } in y) c.self.view_is) (returns-in-Some-clause-worlds c)
 
 pub returns-in-None-clause-left : goal.returns-in-None-clause-left
 returns-in-None-clause-left c =
-    let b : Brokered = record { counts = c.self.inside.layout; words = c.self.inside.memory.words; slots = c.self.inside.slots.items; directory = c.self.inside.directory; creation = c.self.inside.creation; recovery = c.self.inside.recovery } in
+    let b : Brokered = broker_view c.self.inside in
     let new : Brokered = record b { words = c.evict-in-None.new.self.words } in
     let outside : IsInNoBlock b.counts c.args.word = search rules in
     let kept : (new.words.kept ≡ (words_after_eviction c.args.word c.args.self.now.words).kept) ⊎ (new.words.kept ≡ c.args.self.now.words.kept) = elim outside [
@@ -142,7 +143,7 @@ returns-in-None-clause-left c =
 
 pub returns-in-None-clause-downtime : goal.returns-in-None-clause-downtime
 returns-in-None-clause-downtime c =
-    let b : Brokered = record { counts = c.self.inside.layout; words = c.self.inside.memory.words; slots = c.self.inside.slots.items; directory = c.self.inside.directory; creation = c.self.inside.creation; recovery = c.self.inside.recovery } in
+    let b : Brokered = broker_view c.self.inside in
     let new : Brokered = record b { words = c.evict-in-None.new.self.words } in
     eviction_downtime c.args.self.now new c.args.word (subst IsWell c.self.view_is c.self.invariant.well)
     (ap (λ (x : Brokered). let y : Brokered = record x { words = new.words; slots = new.slots } in y) c.self.view_is) (returns-in-None-clause-worlds c)

@@ -5,6 +5,7 @@ use Rattle.arena.specs.declared.broker.SlotId.{SlotId}
 use Rattle.directory.specs.Queue.{IsOpenSlot, slot_in}
 use Rattle.directory.specs.declared.creation.Creation.{Creation}
 use Rattle.arena.specs.Shape.{shape_of}
+use Rattle.named.specs.BrokerView.{broker_view}
 use Rattle.named.specs.Brokers.{Brokered, block_words, room_at, room_of}
 use Rattle.named.specs.Slots.{kind_in, room_in}
 use Rattle.named.specs.Stopping.{IsFound, IsFoundFirst, IsReadingDirectory, found_world}
@@ -17,7 +18,7 @@ use Rattle.named.proofs.broker.Broker.open_found.Goals as goal
 
 pub returns-then-not-is_closed-clause-known : goal.returns-then-not-is_closed-clause-known
 returns-then-not-is_closed-clause-known c =
-    let b : Brokered = record { counts = c.self.inside.layout; words = c.self.inside.memory.words; slots = c.self.inside.slots.items; directory = c.self.inside.directory; creation = c.self.inside.creation; recovery = c.self.inside.recovery } in
+    let b : Brokered = broker_view c.self.inside in
     let down : IsReadingDirectory b.recovery = subst (λ (x : Brokered). IsReadingDirectory x.recovery) (sym c.self.view_is) c.requires.reading in
     let gate : IsOpenSlot b.words.kept c.in-Some.slot.0 = subst (λ (x : Brokered). IsOpenSlot x.words.kept c.in-Some.slot.0) (sym c.self.view_is)
     (subst (λ (o : Option SlotId). IfSome o (λ slot. IsOpenSlot c.args.self.now.words.kept slot.0)) c.in-Some.is c.requires.open) in
@@ -30,7 +31,7 @@ returns-then-not-is_closed-clause-known c =
 
 pub unreachable-requires : goal.unreachable-requires
 unreachable-requires c =
-    let b : Brokered = record { counts = c.self.inside.layout; words = c.self.inside.memory.words; slots = c.self.inside.slots.items; directory = c.self.inside.directory; creation = c.self.inside.creation; recovery = c.self.inside.recovery } in
+    let b : Brokered = broker_view c.self.inside in
     let down : IsReadingDirectory b.recovery = subst (λ (x : Brokered). IsReadingDirectory x.recovery) (sym c.self.view_is) c.requires.reading in
     let gate : IsOpenSlot b.words.kept c.in-Some.slot.0 = subst (λ (x : Brokered). IsOpenSlot x.words.kept c.in-Some.slot.0) (sym c.self.view_is)
     (subst (λ (o : Option SlotId). IfSome o (λ slot. IsOpenSlot c.args.self.now.words.kept slot.0)) c.in-Some.is c.requires.open) in
@@ -41,7 +42,7 @@ unreachable-requires c =
 
 pub open-requires-clause-free : goal.open-requires-clause-free
 open-requires-clause-free c =
-    let b : Brokered = record { counts = c.self.inside.layout; words = c.self.inside.memory.words; slots = c.self.inside.slots.items; directory = c.self.inside.directory; creation = c.self.inside.creation; recovery = c.self.inside.recovery } in
+    let b : Brokered = broker_view c.self.inside in
     let down : IsReadingDirectory b.recovery = subst (λ (x : Brokered). IsReadingDirectory x.recovery) (sym c.self.view_is) c.requires.reading in
     let gate : IsOpenSlot b.words.kept c.in-Some.slot.0 = subst (λ (x : Brokered). IsOpenSlot x.words.kept c.in-Some.slot.0) (sym c.self.view_is)
     (subst (λ (o : Option SlotId). IfSome o (λ slot. IsOpenSlot c.args.self.now.words.kept slot.0)) c.in-Some.is c.requires.open) in
@@ -52,7 +53,7 @@ open-requires-clause-free c =
 
 pub open-requires-clause-new_name : goal.open-requires-clause-new_name
 open-requires-clause-new_name c =
-    let b : Brokered = record { counts = c.self.inside.layout; words = c.self.inside.memory.words; slots = c.self.inside.slots.items; directory = c.self.inside.directory; creation = c.self.inside.creation; recovery = c.self.inside.recovery } in
+    let b : Brokered = broker_view c.self.inside in
     let down : IsReadingDirectory b.recovery = subst (λ (x : Brokered). IsReadingDirectory x.recovery) (sym c.self.view_is) c.requires.reading in
     let gate : IsOpenSlot b.words.kept c.in-Some.slot.0 = subst (λ (x : Brokered). IsOpenSlot x.words.kept c.in-Some.slot.0) (sym c.self.view_is)
     (subst (λ (o : Option SlotId). IfSome o (λ slot. IsOpenSlot c.args.self.now.words.kept slot.0)) c.in-Some.is c.requires.open) in
@@ -65,7 +66,7 @@ open-requires-clause-new_name c =
 
 pub invariant_of-self : goal.invariant_of-self
 invariant_of-self c =
-    let b : Brokered = record { counts = c.self.inside.layout; words = c.self.inside.memory.words; slots = c.self.inside.slots.items; directory = c.self.inside.directory; creation = c.self.inside.creation; recovery = c.self.inside.recovery } in
+    let b : Brokered = broker_view c.self.inside in
     let down : IsReadingDirectory b.recovery = subst (λ (x : Brokered). IsReadingDirectory x.recovery) (sym c.self.view_is) c.requires.reading in
     let gate : IsOpenSlot b.words.kept c.in-Some.slot.0 = subst (λ (x : Brokered). IsOpenSlot x.words.kept c.in-Some.slot.0) (sym c.self.view_is)
     (subst (λ (o : Option SlotId). IfSome o (λ slot. IsOpenSlot c.args.self.now.words.kept slot.0)) c.in-Some.is c.requires.open) in
@@ -86,7 +87,7 @@ invariant_of-self c =
 
 pub returns-clause-found : goal.returns-clause-found
 returns-clause-found c =
-    let b : Brokered = record { counts = c.self.inside.layout; words = c.self.inside.memory.words; slots = c.self.inside.slots.items; directory = c.self.inside.directory; creation = c.self.inside.creation; recovery = c.self.inside.recovery } in
+    let b : Brokered = broker_view c.self.inside in
     let down : IsReadingDirectory b.recovery = subst (λ (x : Brokered). IsReadingDirectory x.recovery) (sym c.self.view_is) c.requires.reading in
     let gate : IsOpenSlot b.words.kept c.in-Some.slot.0 = subst (λ (x : Brokered). IsOpenSlot x.words.kept c.in-Some.slot.0) (sym c.self.view_is)
     (subst (λ (o : Option SlotId). IfSome o (λ slot. IsOpenSlot c.args.self.now.words.kept slot.0)) c.in-Some.is c.requires.open) in
@@ -104,7 +105,7 @@ returns-clause-found c =
 
 pub returns-clause-known : goal.returns-clause-known
 returns-clause-known c =
-    let b : Brokered = record { counts = c.self.inside.layout; words = c.self.inside.memory.words; slots = c.self.inside.slots.items; directory = c.self.inside.directory; creation = c.self.inside.creation; recovery = c.self.inside.recovery } in
+    let b : Brokered = broker_view c.self.inside in
     let down : IsReadingDirectory b.recovery = subst (λ (x : Brokered). IsReadingDirectory x.recovery) (sym c.self.view_is) c.requires.reading in
     let gate : IsOpenSlot b.words.kept c.in-Some.slot.0 = subst (λ (x : Brokered). IsOpenSlot x.words.kept c.in-Some.slot.0) (sym c.self.view_is)
     (subst (λ (o : Option SlotId). IfSome o (λ slot. IsOpenSlot c.args.self.now.words.kept slot.0)) c.in-Some.is c.requires.open) in
@@ -121,7 +122,7 @@ returns-clause-known c =
 
 pub returns-then-not-is_closed-clause-found : goal.returns-then-not-is_closed-clause-found
 returns-then-not-is_closed-clause-found c =
-    let b : Brokered = record { counts = c.self.inside.layout; words = c.self.inside.memory.words; slots = c.self.inside.slots.items; directory = c.self.inside.directory; creation = c.self.inside.creation; recovery = c.self.inside.recovery } in
+    let b : Brokered = broker_view c.self.inside in
     let down : IsReadingDirectory b.recovery = subst (λ (x : Brokered). IsReadingDirectory x.recovery) (sym c.self.view_is) c.requires.reading in
     let gate : IsOpenSlot b.words.kept c.in-Some.slot.0 = subst (λ (x : Brokered). IsOpenSlot x.words.kept c.in-Some.slot.0) (sym c.self.view_is)
     (subst (λ (o : Option SlotId). IfSome o (λ slot. IsOpenSlot c.args.self.now.words.kept slot.0)) c.in-Some.is c.requires.open) in
@@ -133,7 +134,7 @@ returns-then-not-is_closed-clause-found c =
 
 pub returns-clause-well : goal.returns-clause-well
 returns-clause-well c =
-    let b : Brokered = record { counts = c.self.inside.layout; words = c.self.inside.memory.words; slots = c.self.inside.slots.items; directory = c.self.inside.directory; creation = c.self.inside.creation; recovery = c.self.inside.recovery } in
+    let b : Brokered = broker_view c.self.inside in
     let down : IsReadingDirectory b.recovery = subst (λ (x : Brokered). IsReadingDirectory x.recovery) (sym c.self.view_is) c.requires.reading in
     let gate : IsOpenSlot b.words.kept c.in-Some.slot.0 = subst (λ (x : Brokered). IsOpenSlot x.words.kept c.in-Some.slot.0) (sym c.self.view_is)
     (subst (λ (o : Option SlotId). IfSome o (λ slot. IsOpenSlot c.args.self.now.words.kept slot.0)) c.in-Some.is c.requires.open) in
@@ -148,7 +149,7 @@ returns-clause-well c =
 
 pub returns-clause-rooms : goal.returns-clause-rooms
 returns-clause-rooms c = λ other.
-    let b : Brokered = record { counts = c.self.inside.layout; words = c.self.inside.memory.words; slots = c.self.inside.slots.items; directory = c.self.inside.directory; creation = c.self.inside.creation; recovery = c.self.inside.recovery } in
+    let b : Brokered = broker_view c.self.inside in
     let down : IsReadingDirectory b.recovery = subst (λ (x : Brokered). IsReadingDirectory x.recovery) (sym c.self.view_is) c.requires.reading in
     let gate : IsOpenSlot b.words.kept c.in-Some.slot.0 = subst (λ (x : Brokered). IsOpenSlot x.words.kept c.in-Some.slot.0) (sym c.self.view_is)
     (subst (λ (o : Option SlotId). IfSome o (λ slot. IsOpenSlot c.args.self.now.words.kept slot.0)) c.in-Some.is c.requires.open) in

@@ -2,6 +2,7 @@ use Rattle.std.proofs.Common.{rules, ◌≡◌, ◌∙◌, List, Some, Ok, Err, 
 use Rattle.std.specs.Prelude.{IfErr}
 use Rattle.std.specs.Vec.{with_items}
 use Rattle.std.proofs.lemmas.List.{with_items_is}
+use Rattle.named.specs.BrokerView.{broker_view}
 use Rattle.named.specs.Brokers.{Brokered}
 use Rattle.named.specs.Each.{EachBecame, HasMoreRoom}
 use Rattle.named.specs.Renewing.{IsAnewFor, IsWhyNotRenewedAt, MayRenew}
@@ -15,7 +16,7 @@ use Rattle.named.proofs.broker.Broker.prepared.Goals as goal
 
 pub fresh_queue-requires : goal.fresh_queue-requires
 fresh_queue-requires c =
-    let b : Brokered = record { counts = c.self.inside.layout; words = c.self.inside.memory.words; slots = c.self.inside.slots.items; directory = c.self.inside.directory; creation = c.self.inside.creation; recovery = c.self.inside.recovery } in
+    let b : Brokered = broker_view c.self.inside in
     let rests : rotate_result false b ≡ Ok tt =
     rests_as b c.args.self.now c.self.view_is c.check_ready.result c.check_ready.ensures c.in_ok-check_ready.was c.is_some.result c.is_some.ensures
     c.if-is_some.false c.deref.result.now c.deref.ensures.value c.have_calls.result c.have_calls.ensures c.if-have_calls.false in
@@ -24,7 +25,7 @@ fresh_queue-requires c =
 
 pub returns-in_err-block-clause-errors : goal.returns-in_err-block-clause-errors
 returns-in_err-block-clause-errors c =
-    let b : Brokered = record { counts = c.self.inside.layout; words = c.self.inside.memory.words; slots = c.self.inside.slots.items; directory = c.self.inside.directory; creation = c.self.inside.creation; recovery = c.self.inside.recovery } in
+    let b : Brokered = broker_view c.self.inside in
     let rests : rotate_result false b ≡ Ok tt =
     rests_as b c.args.self.now c.self.view_is c.check_ready.result c.check_ready.ensures c.in_ok-check_ready.was c.is_some.result c.is_some.ensures
     c.if-is_some.false c.deref.result.now c.deref.ensures.value c.have_calls.result c.have_calls.ensures c.if-have_calls.false in
@@ -38,7 +39,7 @@ returns-in_err-block-clause-errors c =
 
 pub returns-in_err-slots-clause-errors : goal.returns-in_err-slots-clause-errors
 returns-in_err-slots-clause-errors c =
-    let b : Brokered = record { counts = c.self.inside.layout; words = c.self.inside.memory.words; slots = c.self.inside.slots.items; directory = c.self.inside.directory; creation = c.self.inside.creation; recovery = c.self.inside.recovery } in
+    let b : Brokered = broker_view c.self.inside in
     let rests : rotate_result false b ≡ Ok tt =
     rests_as b c.args.self.now c.self.view_is c.check_ready.result c.check_ready.ensures c.in_ok-check_ready.was c.is_some.result c.is_some.ensures
     c.if-is_some.false c.deref.result.now c.deref.ensures.value c.have_calls.result c.have_calls.ensures c.if-have_calls.false in
@@ -52,7 +53,7 @@ returns-in_err-slots-clause-errors c =
 
 pub boot_each-requires-clause-kept : goal.boot_each-requires-clause-kept
 boot_each-requires-clause-kept c =
-    let b : Brokered = record { counts = c.self.inside.layout; words = c.self.inside.memory.words; slots = c.self.inside.slots.items; directory = c.self.inside.directory; creation = c.self.inside.creation; recovery = c.self.inside.recovery } in
+    let b : Brokered = broker_view c.self.inside in
     let rests : rotate_result false b ≡ Ok tt =
     rests_as b c.args.self.now c.self.view_is c.check_ready.result c.check_ready.ensures c.in_ok-check_ready.was c.is_some.result c.is_some.ensures
     c.if-is_some.false c.deref.result.now c.deref.ensures.value c.have_calls.result c.have_calls.ensures c.if-have_calls.false in
@@ -65,14 +66,14 @@ boot_each-requires-clause-kept c =
 
 pub reserve_each-requires : goal.reserve_each-requires
 reserve_each-requires c =
-    let b : Brokered = record { counts = c.self.inside.layout; words = c.self.inside.memory.words; slots = c.self.inside.slots.items; directory = c.self.inside.directory; creation = c.self.inside.creation; recovery = c.self.inside.recovery } in
+    let b : Brokered = broker_view c.self.inside in
     λ at slot here.
     booted_few b.counts b.words b.directory c.in_ok-slots.slots.items c.self.invariant.well.listed.count c.in_ok-slots.ensures.booted at slot
     (subst (λ (l : List Slot). slice_get l at ≡ Some slot) c.deref_mut.ensures.value here)
 
 pub returns-clause-may : goal.returns-clause-may
 returns-clause-may c =
-    let b : Brokered = record { counts = c.self.inside.layout; words = c.self.inside.memory.words; slots = c.self.inside.slots.items; directory = c.self.inside.directory; creation = c.self.inside.creation; recovery = c.self.inside.recovery } in
+    let b : Brokered = broker_view c.self.inside in
     let rests : rotate_result false b ≡ Ok tt =
     rests_as b c.args.self.now c.self.view_is c.check_ready.result c.check_ready.ensures c.in_ok-check_ready.was c.is_some.result c.is_some.ensures
     c.if-is_some.false c.deref.result.now c.deref.ensures.value c.have_calls.result c.have_calls.ensures c.if-have_calls.false in
@@ -80,7 +81,7 @@ returns-clause-may c =
 
 pub returns-clause-anew : goal.returns-clause-anew
 returns-clause-anew c =
-    let b : Brokered = record { counts = c.self.inside.layout; words = c.self.inside.memory.words; slots = c.self.inside.slots.items; directory = c.self.inside.directory; creation = c.self.inside.creation; recovery = c.self.inside.recovery } in
+    let b : Brokered = broker_view c.self.inside in
     let more : List Slot = c.reserve_each.new.slots in
     let each : EachBecame HasMoreRoom c.in_ok-slots.slots.items more =
     subst (λ (l : List Slot). EachBecame HasMoreRoom l more) c.deref_mut.ensures.value c.reserve_each.ensures.same in

@@ -4,6 +4,7 @@ use Rattle.persist.specs.Memory.{Words}
 use Rattle.directory.specs.Queue.{IsOpenSlot, slot_in}
 use Rattle.directory.specs.declared.recovery.Recovered.{Recovered}
 use Rattle.words.specs.declared.refusal.Refusal.{Refusal}
+use Rattle.named.specs.BrokerView.{broker_view}
 use Rattle.named.specs.Brokers.{Brokered, IsWell, is_ready_at, quiet, room_of, world_at, world_of}
 use Rattle.named.specs.Stopping.{IsDirectoryRead, IsFound, IsReadOn, MayReadOn, found_by, words_read}
 use Rattle.named.specs.declared.recovery.BrokerRecovery.{BrokerRecovery}
@@ -21,7 +22,7 @@ use Rattle.named.proofs.broker.Broker.read_directory.Goals as goal
 
 pub invariant_of-self : goal.invariant_of-self
 invariant_of-self c =
-    let b : Brokered = record { counts = c.self.inside.layout; words = c.self.inside.memory.words; slots = c.self.inside.slots.items; directory = c.self.inside.directory; creation = c.self.inside.creation; recovery = c.self.inside.recovery } in
+    let b : Brokered = broker_view c.self.inside in
     let is : b.recovery ≡ Some (ReadDirectory c.args.at) = ap (λ (x : Brokered). x.recovery) c.self.view_is ∙ c.requires in
     record {
       well = subst (λ (ws : Words). let x : Brokered = record b { words = ws } in IsWell x) (sym c.step-recovered.ensures.one_access) (well_loaded b c.self.invariant.well c.args.at is);
@@ -33,13 +34,13 @@ invariant_of-self c =
 
 pub open_found-requires-clause-well : goal.open_found-requires-clause-well
 open_found-requires-clause-well c =
-    let b : Brokered = record { counts = c.self.inside.layout; words = c.self.inside.memory.words; slots = c.self.inside.slots.items; directory = c.self.inside.directory; creation = c.self.inside.creation; recovery = c.self.inside.recovery } in
+    let b : Brokered = broker_view c.self.inside in
     let is : b.recovery ≡ Some (ReadDirectory c.args.at) = ap (λ (x : Brokered). x.recovery) c.self.view_is ∙ c.requires in
     subst (λ (ws : Words). let x : Brokered = record b { words = ws } in IsWell x) (sym c.step-recovered.ensures.one_access) (well_loaded b c.self.invariant.well c.args.at is)
 
 pub open_found-requires-clause-open : goal.open_found-requires-clause-open
 open_found-requires-clause-open c =
-    let b : Brokered = record { counts = c.self.inside.layout; words = c.self.inside.memory.words; slots = c.self.inside.slots.items; directory = c.self.inside.directory; creation = c.self.inside.creation; recovery = c.self.inside.recovery } in
+    let b : Brokered = broker_view c.self.inside in
     let is : b.recovery ≡ Some (ReadDirectory c.args.at) = ap (λ (x : Brokered). x.recovery) c.self.view_is ∙ c.requires in
     let opens = found_opens b c.self.invariant.well c.args.at is in
     subst (λ (ws : Words). IfSome c.step-recovered.result.opened (λ slot. IsOpenSlot ws.kept slot.0)) (sym c.step-recovered.ensures.one_access)
@@ -47,7 +48,7 @@ open_found-requires-clause-open c =
 
 pub read_on-requires-clause-may : goal.read_on-requires-clause-may
 read_on-requires-clause-may c =
-    let b : Brokered = record { counts = c.self.inside.layout; words = c.self.inside.memory.words; slots = c.self.inside.slots.items; directory = c.self.inside.directory; creation = c.self.inside.creation; recovery = c.self.inside.recovery } in
+    let b : Brokered = broker_view c.self.inside in
     let is : b.recovery ≡ Some (ReadDirectory c.args.at) = ap (λ (x : Brokered). x.recovery) c.self.view_is ∙ c.requires in
     let now : Brokered = c.open_found.new.self in
     let words : now.words ≡ words_read b c.args.at = ap (λ (x : Brokered). x.words) c.open_found.ensures.same ∙ c.step-recovered.ensures.one_access in
@@ -61,7 +62,7 @@ read_on-requires-clause-may c =
 
 pub returns-clause-read : goal.returns-clause-read
 returns-clause-read c =
-    let b : Brokered = record { counts = c.self.inside.layout; words = c.self.inside.memory.words; slots = c.self.inside.slots.items; directory = c.self.inside.directory; creation = c.self.inside.creation; recovery = c.self.inside.recovery } in
+    let b : Brokered = broker_view c.self.inside in
     let is : b.recovery ≡ Some (ReadDirectory c.args.at) = ap (λ (x : Brokered). x.recovery) c.self.view_is ∙ c.requires in
     let now : Brokered = c.open_found.new.self in
     let words : now.words ≡ words_read b c.args.at = ap (λ (x : Brokered). x.words) c.open_found.ensures.same ∙ c.step-recovered.ensures.one_access in
@@ -90,14 +91,14 @@ returns-clause-read c =
 
 pub returns-clause-told : goal.returns-clause-told
 returns-clause-told c = λ at before now.
-    let b : Brokered = record { counts = c.self.inside.layout; words = c.self.inside.memory.words; slots = c.self.inside.slots.items; directory = c.self.inside.directory; creation = c.self.inside.creation; recovery = c.self.inside.recovery } in
+    let b : Brokered = broker_view c.self.inside in
     let is : b.recovery ≡ Some (ReadDirectory c.args.at) = ap (λ (x : Brokered). x.recovery) c.self.view_is ∙ c.requires in
     let same : c.open_found.new.self.recovery ≡ c.args.self.now.recovery = ap (λ (x : Brokered). x.recovery) c.open_found.ensures.same ∙ ap (λ (x : Brokered). x.recovery) c.self.view_is in
     c.read_on.ensures.told at (ap (λ (r : Option BrokerRecovery). is_ready_at r at) same ∙ before) now
 
 pub returns-clause-falls : goal.returns-clause-falls
 returns-clause-falls c =
-    let b : Brokered = record { counts = c.self.inside.layout; words = c.self.inside.memory.words; slots = c.self.inside.slots.items; directory = c.self.inside.directory; creation = c.self.inside.creation; recovery = c.self.inside.recovery } in
+    let b : Brokered = broker_view c.self.inside in
     let is : b.recovery ≡ Some (ReadDirectory c.args.at) = ap (λ (x : Brokered). x.recovery) c.self.view_is ∙ c.requires in
     let now : Brokered = c.open_found.new.self in
     let words : now.words ≡ words_read b c.args.at = ap (λ (x : Brokered). x.words) c.open_found.ensures.same ∙ c.step-recovered.ensures.one_access in

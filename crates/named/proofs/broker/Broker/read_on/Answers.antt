@@ -4,6 +4,7 @@ use Rattle.directory.specs.Directory.{Directory}
 use Rattle.directory.specs.UnderWay.{IsAtRest}
 use Rattle.directory.specs.declared.creation.Creation.{Creation}
 use Rattle.directory.specs.declared.recovery.DirectoryRecovery.{DirectoryRecovery}
+use Rattle.named.specs.BrokerView.{broker_view}
 use Rattle.named.specs.Brokers.{Brokered, IsReading, IsWell, is_ready_at}
 use Rattle.named.specs.Stopping.{IsNext, IsReadingDirectory, MayReadOn}
 use Rattle.named.specs.Lasting.{left_after_read, left_at, most_kept}
@@ -17,7 +18,7 @@ use Rattle.named.proofs.broker.Broker.read_on.Goals as goal
 
 pub invariant_of-self : goal.invariant_of-self
 invariant_of-self c =
-    let b : Brokered = record { counts = c.self.inside.layout; words = c.self.inside.memory.words; slots = c.self.inside.slots.items; directory = c.self.inside.directory; creation = c.self.inside.creation; recovery = c.self.inside.recovery } in
+    let b : Brokered = broker_view c.self.inside in
     let down : IsReadingDirectory b.recovery = subst (λ (x : Brokered). IsReadingDirectory x.recovery) (sym c.self.view_is) c.requires.reading in
     let may : MayReadOn b c.args.after = subst (λ (x : Brokered). MayReadOn x c.args.after) (sym c.self.view_is) c.requires.may in
     let next : IsReading b.words c.in-More.next b.creation b.directory = subst (MayReadOn b) c.in-More.is may in
@@ -29,7 +30,7 @@ invariant_of-self c =
 
 pub invariant_of-self-in-Done : goal.invariant_of-self-in-Done
 invariant_of-self-in-Done c =
-    let b : Brokered = record { counts = c.self.inside.layout; words = c.self.inside.memory.words; slots = c.self.inside.slots.items; directory = c.self.inside.directory; creation = c.self.inside.creation; recovery = c.self.inside.recovery } in
+    let b : Brokered = broker_view c.self.inside in
     let down : IsReadingDirectory b.recovery = subst (λ (x : Brokered). IsReadingDirectory x.recovery) (sym c.self.view_is) c.requires.reading in
     let may : MayReadOn b c.args.after = subst (λ (x : Brokered). MayReadOn x c.args.after) (sym c.self.view_is) c.requires.may in
     let done : (c.in-Done.places ≡ b.directory) × IsAtRest b.words b.directory = subst (MayReadOn b) c.in-Done.is may in
@@ -45,7 +46,7 @@ invariant_of-self-in-Done c =
 
 pub returns-in-Done-clause-told : goal.returns-in-Done-clause-told
 returns-in-Done-clause-told c = λ at before now.
-    let b : Brokered = record { counts = c.self.inside.layout; words = c.self.inside.memory.words; slots = c.self.inside.slots.items; directory = c.self.inside.directory; creation = c.self.inside.creation; recovery = c.self.inside.recovery } in
+    let b : Brokered = broker_view c.self.inside in
     let down : IsReadingDirectory b.recovery = subst (λ (x : Brokered). IsReadingDirectory x.recovery) (sym c.self.view_is) c.requires.reading in
     let may : MayReadOn b c.args.after = subst (λ (x : Brokered). MayReadOn x c.args.after) (sym c.self.view_is) c.requires.may in
     let done : (c.in-Done.places ≡ b.directory) × IsAtRest b.words b.directory = subst (MayReadOn b) c.in-Done.is may in
@@ -56,7 +57,7 @@ returns-in-Done-clause-told c = λ at before now.
 
 pub returns-in-Done-clause-left : goal.returns-in-Done-clause-left
 returns-in-Done-clause-left c =
-    let b : Brokered = record { counts = c.self.inside.layout; words = c.self.inside.memory.words; slots = c.self.inside.slots.items; directory = c.self.inside.directory; creation = c.self.inside.creation; recovery = c.self.inside.recovery } in
+    let b : Brokered = broker_view c.self.inside in
     let down : IsReadingDirectory b.recovery = subst (λ (x : Brokered). IsReadingDirectory x.recovery) (sym c.self.view_is) c.requires.reading in
     let may : MayReadOn b c.args.after = subst (λ (x : Brokered). MayReadOn x c.args.after) (sym c.self.view_is) c.requires.may in
     let done : (c.in-Done.places ≡ b.directory) × IsAtRest b.words b.directory = subst (MayReadOn b) c.in-Done.is may in

@@ -5,6 +5,7 @@ use Rattle.words.specs.declared.refusal.Refusal.{Refusal}
 use Rattle.persist.specs.Noted.{answer_in}
 use Rattle.persist.specs.declared.access.Noted.{Noted}
 use Rattle.directory.specs.declared.creation.Creation.{Creation}
+use Rattle.named.specs.BrokerView.{broker_view}
 use Rattle.named.specs.Brokers.{Brokered, IsWell, is_ready_at, room_at, room_of, with_slot}
 use Rattle.named.specs.Stopping.{HasFullQueue, IsNext, IsQueueRecovered, creation_after}
 use Rattle.named.specs.declared.recovery.BrokerRecovery.{BrokerRecovery}
@@ -23,7 +24,7 @@ use Rattle.named.proofs.broker.Broker.recover_queue.Goals as goal
 
 pub recover_step-requires : goal.recover_step-requires
 recover_step-requires c =
-    let b : Brokered = record { counts = c.self.inside.layout; words = c.self.inside.memory.words; slots = c.self.inside.slots.items; directory = c.self.inside.directory; creation = c.self.inside.creation; recovery = c.self.inside.recovery } in
+    let b : Brokered = broker_view c.self.inside in
     let turn : b.recovery ≡ Some (RecoverQueue c.args.slot) = ap (λ (x : Brokered). x.recovery) c.self.view_is ∙ c.requires in
     let was : Slot = c.index_mut.result.now in
     let here : slice_get b.slots c.args.slot.0 ≡ Some was = slice_get_read b.slots 8 c.args.slot.0 was (sym c.self.invariant.well.count) (its_slot b c.self.invariant.well c.args.slot turn) c.index_mut.ensures.value in
@@ -34,7 +35,7 @@ recover_step-requires c =
 
 pub invariant_of-self : goal.invariant_of-self
 invariant_of-self c =
-    let b : Brokered = record { counts = c.self.inside.layout; words = c.self.inside.memory.words; slots = c.self.inside.slots.items; directory = c.self.inside.directory; creation = c.self.inside.creation; recovery = c.self.inside.recovery } in
+    let b : Brokered = broker_view c.self.inside in
     let turn : b.recovery ≡ Some (RecoverQueue c.args.slot) = ap (λ (x : Brokered). x.recovery) c.self.view_is ∙ c.requires in
     let was : Slot = c.index_mut.result.now in
     let here : slice_get b.slots c.args.slot.0 ≡ Some was = slice_get_read b.slots 8 c.args.slot.0 was (sym c.self.invariant.well.count) (its_slot b c.self.invariant.well c.args.slot turn) c.index_mut.ensures.value in
@@ -43,7 +44,7 @@ invariant_of-self c =
     let new = c.recover_step.new.memory in
     let below = its_slot b c.self.invariant.well c.args.slot turn in
     record {
-      well = well_recovering b c.args.slot was c.recover_step.new.self c.recover_step.new.memory.words c.self.invariant.well here c.recover_step.ensures.well c.recover_step.ensures.outside c.recover_step.ensures.same turn (answer_in c.recover_step.result) c.recover_step.ensures.world c.recover_step.ensures.result yet;
+      well = well_recovering b c.args.slot was c.recover_step.new.self c.recover_step.new.memory.words c.self.invariant.well here c.recover_step.ensures.well c.recover_step.ensures.outside c.recover_step.ensures.same turn (answer_in c.recover_step.result) c.recover_step.ensures.act.world c.recover_step.ensures.act.answers yet;
       slots = acted_asked b c.self.inside.memory new c.args.slot.0 was c.recover_step.new.self c.self.invariant here below e.beside new.words
           (slot_now b.counts b.words new.words c.args.slot.0 was c.recover_step.new.self (c.self.invariant.well.slots c.args.slot.0 was here) e.well e.same e.outside)
           e.asked (λ k ne. others_stay b c.args.slot.0 was c.recover_step.new.self new.words c.self.invariant.well here e.well e.outside e.same k ne);
@@ -52,20 +53,20 @@ invariant_of-self c =
 
 pub returns-in_err-ready-clause-recovered : goal.returns-in_err-ready-clause-recovered
 returns-in_err-ready-clause-recovered c =
-    let b : Brokered = record { counts = c.self.inside.layout; words = c.self.inside.memory.words; slots = c.self.inside.slots.items; directory = c.self.inside.directory; creation = c.self.inside.creation; recovery = c.self.inside.recovery } in
+    let b : Brokered = broker_view c.self.inside in
     let turn : b.recovery ≡ Some (RecoverQueue c.args.slot) = ap (λ (x : Brokered). x.recovery) c.self.view_is ∙ c.requires in
     let was : Slot = c.index_mut.result.now in
     let here : slice_get b.slots c.args.slot.0 ≡ Some was = slice_get_read b.slots 8 c.args.slot.0 was (sym c.self.invariant.well.count) (its_slot b c.self.invariant.well c.args.slot turn) c.index_mut.ensures.value in
     let yet : ready_by (answer_in c.recover_step.result) ≡ false = ap (λ (r : Result (Noted Bool) Refusal). ready_by (answer_in r)) c.in_err-ready.was in
     let now : Brokered = with_slot b c.args.slot.0 c.recover_step.new.self c.recover_step.new.memory.words in
     let answer : answer_in c.recover_step.result ≡ answer_in c.from_residual.result = search rules in
-    let spent : HasSpent was c.recover_step.new.self (answer_in c.recover_step.result) = record { full = c.recover_step.ensures.full; room = c.recover_step.ensures.room; spare = c.recover_step.ensures.spare; stays = c.recover_step.ensures.stays } in
-    let done : IsQueueRecovered b now c.args.slot.0 (answer_in c.recover_step.result) = recovering b c.args.slot was c.recover_step.new.self c.recover_step.new.memory.words c.self.invariant.well here c.recover_step.ensures.well c.recover_step.ensures.outside c.recover_step.ensures.same turn (answer_in c.recover_step.result) c.recover_step.ensures.world c.recover_step.ensures.result yet spent in
+    let spent : HasSpent was c.recover_step.new.self (answer_in c.recover_step.result) = record { full = c.recover_step.ensures.act.full; room = c.recover_step.ensures.act.room; spare = c.recover_step.ensures.act.spare; stays = c.recover_step.ensures.stays } in
+    let done : IsQueueRecovered b now c.args.slot.0 (answer_in c.recover_step.result) = recovering b c.args.slot was c.recover_step.new.self c.recover_step.new.memory.words c.self.invariant.well here c.recover_step.ensures.well c.recover_step.ensures.outside c.recover_step.ensures.same turn (answer_in c.recover_step.result) c.recover_step.ensures.act.world c.recover_step.ensures.act.answers yet spent in
     subst (λ (x : Brokered). IsQueueRecovered x now c.args.slot.0 (answer_in c.from_residual.result)) c.self.view_is (subst (IsQueueRecovered b now c.args.slot.0) answer done)
 
 pub invariant_of-self-then-not-ready : goal.invariant_of-self-then-not-ready
 invariant_of-self-then-not-ready c =
-    let b : Brokered = record { counts = c.self.inside.layout; words = c.self.inside.memory.words; slots = c.self.inside.slots.items; directory = c.self.inside.directory; creation = c.self.inside.creation; recovery = c.self.inside.recovery } in
+    let b : Brokered = broker_view c.self.inside in
     let turn : b.recovery ≡ Some (RecoverQueue c.args.slot) = ap (λ (x : Brokered). x.recovery) c.self.view_is ∙ c.requires in
     let was : Slot = c.index_mut.result.now in
     let here : slice_get b.slots c.args.slot.0 ≡ Some was = slice_get_read b.slots 8 c.args.slot.0 was (sym c.self.invariant.well.count) (its_slot b c.self.invariant.well c.args.slot turn) c.index_mut.ensures.value in
@@ -74,7 +75,7 @@ invariant_of-self-then-not-ready c =
     let new = c.recover_step.new.memory in
     let below = its_slot b c.self.invariant.well c.args.slot turn in
     record {
-      well = well_recovering b c.args.slot was c.recover_step.new.self c.recover_step.new.memory.words c.self.invariant.well here c.recover_step.ensures.well c.recover_step.ensures.outside c.recover_step.ensures.same turn (answer_in c.recover_step.result) c.recover_step.ensures.world c.recover_step.ensures.result yet;
+      well = well_recovering b c.args.slot was c.recover_step.new.self c.recover_step.new.memory.words c.self.invariant.well here c.recover_step.ensures.well c.recover_step.ensures.outside c.recover_step.ensures.same turn (answer_in c.recover_step.result) c.recover_step.ensures.act.world c.recover_step.ensures.act.answers yet;
       slots = acted_asked b c.self.inside.memory new c.args.slot.0 was c.recover_step.new.self c.self.invariant here below e.beside new.words
           (slot_now b.counts b.words new.words c.args.slot.0 was c.recover_step.new.self (c.self.invariant.well.slots c.args.slot.0 was here) e.well e.same e.outside)
           e.asked (λ k ne. others_stay b c.args.slot.0 was c.recover_step.new.self new.words c.self.invariant.well here e.well e.outside e.same k ne);
@@ -83,20 +84,20 @@ invariant_of-self-then-not-ready c =
 
 pub returns-then-not-ready-clause-recovered : goal.returns-then-not-ready-clause-recovered
 returns-then-not-ready-clause-recovered c =
-    let b : Brokered = record { counts = c.self.inside.layout; words = c.self.inside.memory.words; slots = c.self.inside.slots.items; directory = c.self.inside.directory; creation = c.self.inside.creation; recovery = c.self.inside.recovery } in
+    let b : Brokered = broker_view c.self.inside in
     let turn : b.recovery ≡ Some (RecoverQueue c.args.slot) = ap (λ (x : Brokered). x.recovery) c.self.view_is ∙ c.requires in
     let was : Slot = c.index_mut.result.now in
     let here : slice_get b.slots c.args.slot.0 ≡ Some was = slice_get_read b.slots 8 c.args.slot.0 was (sym c.self.invariant.well.count) (its_slot b c.self.invariant.well c.args.slot turn) c.index_mut.ensures.value in
     let yet : ready_by (answer_in c.recover_step.result) ≡ false = ap (λ (r : Result (Noted Bool) Refusal). ready_by (answer_in r)) c.in_ok-ready.was ∙ c.if-not-ready.true in
     let now : Brokered = with_slot b c.args.slot.0 c.recover_step.new.self c.recover_step.new.memory.words in
     let answer : (answer_in c.recover_step.result) ≡ Ok false = ap (answer_in {T = Bool}) c.in_ok-ready.was ∙ ap (λ (x : Bool). let r : Result Bool Refusal = Ok x in r) c.if-not-ready.true in
-    let spent : HasSpent was c.recover_step.new.self (answer_in c.recover_step.result) = record { full = c.recover_step.ensures.full; room = c.recover_step.ensures.room; spare = c.recover_step.ensures.spare; stays = c.recover_step.ensures.stays } in
-    let done : IsQueueRecovered b now c.args.slot.0 (answer_in c.recover_step.result) = recovering b c.args.slot was c.recover_step.new.self c.recover_step.new.memory.words c.self.invariant.well here c.recover_step.ensures.well c.recover_step.ensures.outside c.recover_step.ensures.same turn (answer_in c.recover_step.result) c.recover_step.ensures.world c.recover_step.ensures.result yet spent in
+    let spent : HasSpent was c.recover_step.new.self (answer_in c.recover_step.result) = record { full = c.recover_step.ensures.act.full; room = c.recover_step.ensures.act.room; spare = c.recover_step.ensures.act.spare; stays = c.recover_step.ensures.stays } in
+    let done : IsQueueRecovered b now c.args.slot.0 (answer_in c.recover_step.result) = recovering b c.args.slot was c.recover_step.new.self c.recover_step.new.memory.words c.self.invariant.well here c.recover_step.ensures.well c.recover_step.ensures.outside c.recover_step.ensures.same turn (answer_in c.recover_step.result) c.recover_step.ensures.act.world c.recover_step.ensures.act.answers yet spent in
     subst (λ (x : Brokered). IsQueueRecovered x now c.args.slot.0 (Ok false)) c.self.view_is (subst (IsQueueRecovered b now c.args.slot.0) answer done)
 
 pub invariant_of-self-2 : goal.invariant_of-self-2
 invariant_of-self-2 c =
-    let b : Brokered = record { counts = c.self.inside.layout; words = c.self.inside.memory.words; slots = c.self.inside.slots.items; directory = c.self.inside.directory; creation = c.self.inside.creation; recovery = c.self.inside.recovery } in
+    let b : Brokered = broker_view c.self.inside in
     let turn : b.recovery ≡ Some (RecoverQueue c.args.slot) = ap (λ (x : Brokered). x.recovery) c.self.view_is ∙ c.requires in
     let was : Slot = c.index_mut.result.now in
     let here : slice_get b.slots c.args.slot.0 ≡ Some was = slice_get_read b.slots 8 c.args.slot.0 was (sym c.self.invariant.well.count) (its_slot b c.self.invariant.well c.args.slot turn) c.index_mut.ensures.value in
@@ -109,7 +110,7 @@ invariant_of-self-2 c =
     let below = its_slot b c.self.invariant.well c.args.slot turn in
     record {
       well = subst (λ (k : Option Creation). let x : Brokered = record now { recovery = recovery; creation = k } in IsWell x) (sym c.creation_left-self-inside.ensures)
-          (well_ready b c.args.slot was c.recover_step.new.self c.recover_step.new.memory.words c.self.invariant.well here c.recover_step.ensures.well c.recover_step.ensures.outside c.recover_step.ensures.same turn (answer_in c.recover_step.result) c.recover_step.ensures.world c.recover_step.ensures.result ready recovery next);
+          (well_ready b c.args.slot was c.recover_step.new.self c.recover_step.new.memory.words c.self.invariant.well here c.recover_step.ensures.well c.recover_step.ensures.outside c.recover_step.ensures.same turn (answer_in c.recover_step.result) c.recover_step.ensures.act.world c.recover_step.ensures.act.answers ready recovery next);
       slots = acted_asked b c.self.inside.memory new c.args.slot.0 was c.recover_step.new.self c.self.invariant here below e.beside new.words
           (slot_now b.counts b.words new.words c.args.slot.0 was c.recover_step.new.self (c.self.invariant.well.slots c.args.slot.0 was here) e.well e.same e.outside)
           e.asked (λ k ne. others_stay b c.args.slot.0 was c.recover_step.new.self new.words c.self.invariant.well here e.well e.outside e.same k ne);
@@ -118,7 +119,7 @@ invariant_of-self-2 c =
 
 pub returns-clause-recovered : goal.returns-clause-recovered
 returns-clause-recovered c =
-    let b : Brokered = record { counts = c.self.inside.layout; words = c.self.inside.memory.words; slots = c.self.inside.slots.items; directory = c.self.inside.directory; creation = c.self.inside.creation; recovery = c.self.inside.recovery } in
+    let b : Brokered = broker_view c.self.inside in
     let turn : b.recovery ≡ Some (RecoverQueue c.args.slot) = ap (λ (x : Brokered). x.recovery) c.self.view_is ∙ c.requires in
     let was : Slot = c.index_mut.result.now in
     let here : slice_get b.slots c.args.slot.0 ≡ Some was = slice_get_read b.slots 8 c.args.slot.0 was (sym c.self.invariant.well.count) (its_slot b c.self.invariant.well c.args.slot turn) c.index_mut.ensures.value in
@@ -127,8 +128,8 @@ returns-clause-recovered c =
     let next : IsNext b.directory (c.args.slot.0 + 1) recovery = c.recovery_from-self-inside.ensures in
     let now : Brokered = with_slot b c.args.slot.0 c.recover_step.new.self c.recover_step.new.memory.words in
     let answer : Result Bool Refusal = Ok (is_none recovery) in
-    let spent : HasSpent was c.recover_step.new.self (answer_in c.recover_step.result) = record { full = c.recover_step.ensures.full; room = c.recover_step.ensures.room; spare = c.recover_step.ensures.spare; stays = c.recover_step.ensures.stays } in
-    let done : IsQueueRecovered b (record now { recovery = recovery; creation = creation_after b.creation recovery }) c.args.slot.0 answer = recovered b c.args.slot was c.recover_step.new.self c.recover_step.new.memory.words c.self.invariant.well here c.recover_step.ensures.well c.recover_step.ensures.outside c.recover_step.ensures.same turn (answer_in c.recover_step.result) c.recover_step.ensures.world c.recover_step.ensures.result ready recovery next spent in
+    let spent : HasSpent was c.recover_step.new.self (answer_in c.recover_step.result) = record { full = c.recover_step.ensures.act.full; room = c.recover_step.ensures.act.room; spare = c.recover_step.ensures.act.spare; stays = c.recover_step.ensures.stays } in
+    let done : IsQueueRecovered b (record now { recovery = recovery; creation = creation_after b.creation recovery }) c.args.slot.0 answer = recovered b c.args.slot was c.recover_step.new.self c.recover_step.new.memory.words c.self.invariant.well here c.recover_step.ensures.well c.recover_step.ensures.outside c.recover_step.ensures.same turn (answer_in c.recover_step.result) c.recover_step.ensures.act.world c.recover_step.ensures.act.answers ready recovery next spent in
     let answered : is_none recovery ≡ c.is_none.result = search rules in
     let new : Brokered = record now { recovery = recovery; creation = c.creation_left-self-inside.result } in
     let left : IsQueueRecovered b new c.args.slot.0 answer =
@@ -137,7 +138,7 @@ returns-clause-recovered c =
 
 pub returns-clause-told : goal.returns-clause-told
 returns-clause-told c = λ at before now.
-    let b : Brokered = record { counts = c.self.inside.layout; words = c.self.inside.memory.words; slots = c.self.inside.slots.items; directory = c.self.inside.directory; creation = c.self.inside.creation; recovery = c.self.inside.recovery } in
+    let b : Brokered = broker_view c.self.inside in
     let turn : b.recovery ≡ Some (RecoverQueue c.args.slot) = ap (λ (x : Brokered). x.recovery) c.self.view_is ∙ c.requires in
     let was : Slot = c.index_mut.result.now in
     let here : slice_get b.slots c.args.slot.0 ≡ Some was = slice_get_read b.slots 8 c.args.slot.0 was (sym c.self.invariant.well.count) (its_slot b c.self.invariant.well c.args.slot turn) c.index_mut.ensures.value in
@@ -145,21 +146,21 @@ returns-clause-told c = λ at before now.
     let recovery : Option BrokerRecovery = c.recovery_from-self-inside.result in
     let next : IsNext b.directory (c.args.slot.0 + 1) recovery = c.recovery_from-self-inside.ensures in
     let was_not : is_ready_at b.recovery at ≡ false = subst (λ (x : Brokered). is_ready_at x.recovery at ≡ false) (sym c.self.view_is) before in
-    tells_ready b c.args.slot was c.recover_step.new.self c.recover_step.new.memory.words c.self.invariant.well here c.recover_step.ensures.well c.recover_step.ensures.outside c.recover_step.ensures.same turn (answer_in c.recover_step.result) c.recover_step.ensures.world c.recover_step.ensures.result ready recovery next at was_not now
+    tells_ready b c.args.slot was c.recover_step.new.self c.recover_step.new.memory.words c.self.invariant.well here c.recover_step.ensures.well c.recover_step.ensures.outside c.recover_step.ensures.same turn (answer_in c.recover_step.result) c.recover_step.ensures.act.world c.recover_step.ensures.act.answers ready recovery next at was_not now
 
 pub returns-then-not-ready-clause-falls : goal.returns-then-not-ready-clause-falls
 returns-then-not-ready-clause-falls c =
-    let b : Brokered = record { counts = c.self.inside.layout; words = c.self.inside.memory.words; slots = c.self.inside.slots.items; directory = c.self.inside.directory; creation = c.self.inside.creation; recovery = c.self.inside.recovery } in
+    let b : Brokered = broker_view c.self.inside in
     let turn : b.recovery ≡ Some (RecoverQueue c.args.slot) = ap (λ (x : Brokered). x.recovery) c.self.view_is ∙ c.requires in
     let was : Slot = c.index_mut.result.now in
     let here : slice_get b.slots c.args.slot.0 ≡ Some was = slice_get_read b.slots 8 c.args.slot.0 was (sym c.self.invariant.well.count) (its_slot b c.self.invariant.well c.args.slot turn) c.index_mut.ensures.value in
     let now : Brokered = with_slot b c.args.slot.0 c.recover_step.new.self c.recover_step.new.memory.words in
-    let less : steps_left now < steps_left b = falls_yet b c.args.slot was c.recover_step.new.self c.recover_step.new.memory.words c.self.invariant.well here c.recover_step.ensures.well c.recover_step.ensures.outside c.recover_step.ensures.same turn (answer_in c.recover_step.result) c.recover_step.ensures.world c.recover_step.ensures.result c.in_ok-ready.field-0.answer (ap (answer_in {T = Bool}) c.in_ok-ready.was) in
+    let less : steps_left now < steps_left b = falls_yet b c.args.slot was c.recover_step.new.self c.recover_step.new.memory.words c.self.invariant.well here c.recover_step.ensures.well c.recover_step.ensures.outside c.recover_step.ensures.same turn (answer_in c.recover_step.result) c.recover_step.ensures.act.world c.recover_step.ensures.act.answers c.in_ok-ready.field-0.answer (ap (answer_in {T = Bool}) c.in_ok-ready.was) in
     subst (λ (x : Brokered). steps_left now < steps_left x) c.self.view_is less
 
 pub returns-clause-falls : goal.returns-clause-falls
 returns-clause-falls c =
-    let b : Brokered = record { counts = c.self.inside.layout; words = c.self.inside.memory.words; slots = c.self.inside.slots.items; directory = c.self.inside.directory; creation = c.self.inside.creation; recovery = c.self.inside.recovery } in
+    let b : Brokered = broker_view c.self.inside in
     let turn : b.recovery ≡ Some (RecoverQueue c.args.slot) = ap (λ (x : Brokered). x.recovery) c.self.view_is ∙ c.requires in
     let was : Slot = c.index_mut.result.now in
     let here : slice_get b.slots c.args.slot.0 ≡ Some was = slice_get_read b.slots 8 c.args.slot.0 was (sym c.self.invariant.well.count) (its_slot b c.self.invariant.well c.args.slot turn) c.index_mut.ensures.value in
@@ -167,35 +168,35 @@ returns-clause-falls c =
     let recovery : Option BrokerRecovery = c.recovery_from-self-inside.result in
     let next : IsNext b.directory (c.args.slot.0 + 1) recovery = c.recovery_from-self-inside.ensures in
     let now : Brokered = with_slot b c.args.slot.0 c.recover_step.new.self c.recover_step.new.memory.words in
-    let less : steps_left (record now { recovery = recovery; creation = creation_after b.creation recovery }) < steps_left b = falls_ready b c.args.slot was c.recover_step.new.self c.recover_step.new.memory.words c.self.invariant.well here c.recover_step.ensures.well c.recover_step.ensures.outside c.recover_step.ensures.same turn (answer_in c.recover_step.result) c.recover_step.ensures.world c.recover_step.ensures.result ready recovery next in
+    let less : steps_left (record now { recovery = recovery; creation = creation_after b.creation recovery }) < steps_left b = falls_ready b c.args.slot was c.recover_step.new.self c.recover_step.new.memory.words c.self.invariant.well here c.recover_step.ensures.well c.recover_step.ensures.outside c.recover_step.ensures.same turn (answer_in c.recover_step.result) c.recover_step.ensures.act.world c.recover_step.ensures.act.answers ready recovery next in
     subst (λ (x : Brokered). left_at now recovery < steps_left x) c.self.view_is less
 
 pub returns-in_err-ready-clause-full : goal.returns-in_err-ready-clause-full
 returns-in_err-ready-clause-full c = λ no_memory.
-    let b : Brokered = record { counts = c.self.inside.layout; words = c.self.inside.memory.words; slots = c.self.inside.slots.items; directory = c.self.inside.directory; creation = c.self.inside.creation; recovery = c.self.inside.recovery } in
+    let b : Brokered = broker_view c.self.inside in
     let turn : b.recovery ≡ Some (RecoverQueue c.args.slot) = ap (λ (x : Brokered). x.recovery) c.self.view_is ∙ c.requires in
     let was : Slot = c.index_mut.result.now in
     let here : slice_get b.slots c.args.slot.0 ≡ Some was = slice_get_read b.slots 8 c.args.slot.0 was (sym c.self.invariant.well.count) (its_slot b c.self.invariant.well c.args.slot turn) c.index_mut.ensures.value in
     let answer : answer_in c.recover_step.result ≡ answer_in c.from_residual.result = search rules in
-    let full : room_in was ≡ 0 = c.recover_step.ensures.full (ap (is_no_memory {X = Bool}) answer ∙ no_memory) in
+    let full : room_in was ≡ 0 = c.recover_step.ensures.act.full (ap (is_no_memory {X = Bool}) answer ∙ no_memory) in
     subst HasFullQueue c.self.view_is (full_here b c.self.invariant.well c.args.slot turn was here full)
 
 pub returns-in_err-ready-clause-room : goal.returns-in_err-ready-clause-room
 returns-in_err-ready-clause-room c = λ other.
-    let b : Brokered = record { counts = c.self.inside.layout; words = c.self.inside.memory.words; slots = c.self.inside.slots.items; directory = c.self.inside.directory; creation = c.self.inside.creation; recovery = c.self.inside.recovery } in
+    let b : Brokered = broker_view c.self.inside in
     let turn : b.recovery ≡ Some (RecoverQueue c.args.slot) = ap (λ (x : Brokered). x.recovery) c.self.view_is ∙ c.requires in
     let was : Slot = c.index_mut.result.now in
     let here : slice_get b.slots c.args.slot.0 ≡ Some was = slice_get_read b.slots 8 c.args.slot.0 was (sym c.self.invariant.well.count) (its_slot b c.self.invariant.well c.args.slot turn) c.index_mut.ensures.value in
     subst (λ (x : Brokered). room_at x other ≤ room_of (slice_get (slice_set b.slots c.args.slot.0 c.recover_step.new.self) other) + 1) c.self.view_is
-    (rooms_after b.slots c.args.slot.0 was c.recover_step.new.self here c.recover_step.ensures.room other)
+    (rooms_after b.slots c.args.slot.0 was c.recover_step.new.self here c.recover_step.ensures.act.room other)
 
 pub returns-in_err-ready-clause-spare : goal.returns-in_err-ready-clause-spare
 returns-in_err-ready-clause-spare c =
-    let b : Brokered = record { counts = c.self.inside.layout; words = c.self.inside.memory.words; slots = c.self.inside.slots.items; directory = c.self.inside.directory; creation = c.self.inside.creation; recovery = c.self.inside.recovery } in
+    let b : Brokered = broker_view c.self.inside in
     let turn : b.recovery ≡ Some (RecoverQueue c.args.slot) = ap (λ (x : Brokered). x.recovery) c.self.view_is ∙ c.requires in
     let was : Slot = c.index_mut.result.now in
     let here : slice_get b.slots c.args.slot.0 ≡ Some was = slice_get_read b.slots 8 c.args.slot.0 was (sym c.self.invariant.well.count) (its_slot b c.self.invariant.well c.args.slot turn) c.index_mut.ensures.value in
-    let refused : room_in was ≤ room_in c.recover_step.new.self = subst (λ (r : Result (Noted Bool) Refusal). IfErr (answer_in r) (λ e. room_in was ≤ room_in c.recover_step.new.self)) c.in_err-ready.was c.recover_step.ensures.spare in
+    let refused : room_in was ≤ room_in c.recover_step.new.self = subst (λ (r : Result (Noted Bool) Refusal). IfErr (answer_in r) (λ e. room_in was ≤ room_in c.recover_step.new.self)) c.in_err-ready.was c.recover_step.ensures.act.spare in
     let all : (other : ℕ) → room_at c.args.self.now other ≤ room_of (slice_get (slice_set b.slots c.args.slot.0 c.recover_step.new.self) other) = λ other.
     subst (λ (x : Brokered). room_at x other ≤ room_of (slice_get (slice_set b.slots c.args.slot.0 c.recover_step.new.self) other)) c.self.view_is
     (rooms_kept b.slots c.args.slot.0 was c.recover_step.new.self here refused other) in
@@ -203,21 +204,21 @@ returns-in_err-ready-clause-spare c =
 
 pub returns-then-not-ready-clause-room : goal.returns-then-not-ready-clause-room
 returns-then-not-ready-clause-room c = λ other.
-    let b : Brokered = record { counts = c.self.inside.layout; words = c.self.inside.memory.words; slots = c.self.inside.slots.items; directory = c.self.inside.directory; creation = c.self.inside.creation; recovery = c.self.inside.recovery } in
+    let b : Brokered = broker_view c.self.inside in
     let turn : b.recovery ≡ Some (RecoverQueue c.args.slot) = ap (λ (x : Brokered). x.recovery) c.self.view_is ∙ c.requires in
     let was : Slot = c.index_mut.result.now in
     let here : slice_get b.slots c.args.slot.0 ≡ Some was = slice_get_read b.slots 8 c.args.slot.0 was (sym c.self.invariant.well.count) (its_slot b c.self.invariant.well c.args.slot turn) c.index_mut.ensures.value in
     subst (λ (x : Brokered). room_at x other ≤ room_of (slice_get (slice_set b.slots c.args.slot.0 c.recover_step.new.self) other) + 1) c.self.view_is
-    (rooms_after b.slots c.args.slot.0 was c.recover_step.new.self here c.recover_step.ensures.room other)
+    (rooms_after b.slots c.args.slot.0 was c.recover_step.new.self here c.recover_step.ensures.act.room other)
 
 pub returns-clause-room : goal.returns-clause-room
 returns-clause-room c = λ other.
-    let b : Brokered = record { counts = c.self.inside.layout; words = c.self.inside.memory.words; slots = c.self.inside.slots.items; directory = c.self.inside.directory; creation = c.self.inside.creation; recovery = c.self.inside.recovery } in
+    let b : Brokered = broker_view c.self.inside in
     let turn : b.recovery ≡ Some (RecoverQueue c.args.slot) = ap (λ (x : Brokered). x.recovery) c.self.view_is ∙ c.requires in
     let was : Slot = c.index_mut.result.now in
     let here : slice_get b.slots c.args.slot.0 ≡ Some was = slice_get_read b.slots 8 c.args.slot.0 was (sym c.self.invariant.well.count) (its_slot b c.self.invariant.well c.args.slot turn) c.index_mut.ensures.value in
     subst (λ (x : Brokered). room_at x other ≤ room_of (slice_get (slice_set b.slots c.args.slot.0 c.recover_step.new.self) other) + 1) c.self.view_is
-    (rooms_after b.slots c.args.slot.0 was c.recover_step.new.self here c.recover_step.ensures.room other)
+    (rooms_after b.slots c.args.slot.0 was c.recover_step.new.self here c.recover_step.ensures.act.room other)
 
 pub returns-in_err-ready-clause-promises : goal.returns-in_err-ready-clause-promises
 returns-in_err-ready-clause-promises c = promises_well _ (invariant_of-self c).well

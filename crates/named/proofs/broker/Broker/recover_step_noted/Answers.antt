@@ -2,6 +2,7 @@ use Rattle.std.proofs.Common.{rules, ◌≡◌, ◌+◌, ◌≤◌, Ok, Some, su
 use Rattle.persist.specs.Noted.{answer_in}
 use Rattle.arena.specs.declared.broker.SlotId.{SlotId}
 use Rattle.directory.specs.declared.recovery.DirectoryRecovery.{DirectoryRecovery}
+use Rattle.named.specs.BrokerView.{broker_view}
 use Rattle.named.specs.Brokers.{Brokered, IsWell}
 use Rattle.named.specs.Lasting.{most_kept, steps_left}
 use Rattle.named.specs.declared.recovery.BrokerRecovery.TheVariants.{ReadDirectory, RecoverQueue}
@@ -13,7 +14,7 @@ use Rattle.named.proofs.broker.Broker.recover_step_noted.Goals as goal
 
 pub returns-in-Some-RecoverQueue-clause-few : goal.returns-in-Some-RecoverQueue-clause-few
 returns-in-Some-RecoverQueue-clause-few c =
-    let b : Brokered = record { counts = c.self.inside.layout; words = c.self.inside.memory.words; slots = c.self.inside.slots.items; directory = c.self.inside.directory; creation = c.self.inside.creation; recovery = c.self.inside.recovery } in
+    let b : Brokered = broker_view c.self.inside in
     subst (λ (x : Brokered). steps_left x ≤ 32 + most_kept x) c.self.view_is (few_left b c.self.invariant.well)
 
 pub returns-in-None-clause-promises : goal.returns-in-None-clause-promises

@@ -1,11 +1,12 @@
-use Rattle.std.proofs.Common.{◌≡◌, ◌∙◌, ℕ, List, false, Result, Ok, Err, sym, ap, subst, arith}
-use Rattle.std.specs.Prelude.{OnOk, length}
+use Rattle.std.proofs.Common.{rules, ◌≡◌, ◌∙◌, ℕ, List, false, Result, Ok, Err, sym, ap, subst, arith}
+use Rattle.std.specs.Prelude.{IfErr, OnOk, length}
 use Rattle.std.specs.Result.{is_err}
 use Rattle.persist.specs.Memory.{Words, overwritten}
 use Rattle.persist.specs.declared.access.Change.{Change}
 use Rattle.arena.specs.Broker.{block_from}
 use Rattle.notes.specs.Noting.{HasNoted}
 use Rattle.named.specs.Brokers.{Brokered}
+use Rattle.named.specs.Renewing.{IsWhyNotRenewedAt}
 use Rattle.named.proofs.broker.Broker.renew_noted.Goals as goal
 
 pub note_rewrite-requires : goal.note_rewrite-requires
@@ -36,5 +37,14 @@ returns-clause-noted c =
     ∙ ap (λ (b : Brokered). overwritten (block_from b.counts c.args.slot.0) block b.words.kept) c.self.view_is
     ∙ c.in_ok-anew.ensures.anew.words
     ∙ sym (ap (λ (ws : Words). ws.kept) c.begin_anew.ensures.renewed.booted.words) in
-    subst (λ (ws : List ℕ). HasNoted old new ws c.begin_anew.new.self.words.kept) (ap (λ (b : Brokered). b.words.kept) c.self.view_is)
+    subst (λ (ws : List ℕ). HasNoted old new ws c.begin_anew.new.self.words.kept)
+    (ap (λ (b : Brokered). b.words.kept) (c.self.view_is ∙ c.take_spare-list.ensures))
     (subst (HasNoted old new kept) made noted)
+
+pub returns-in_err-anew-clause-errors : goal.returns-in_err-anew-clause-errors
+returns-in_err-anew-clause-errors c =
+    let e = c.in_err-anew.field-0.0 in
+    let why : IsWhyNotRenewedAt c.args.self.now c.args.slot.0 e =
+    subst (λ (b : Brokered). IsWhyNotRenewedAt b c.args.slot.0 e) c.take_spare-list.ensures c.in_err-anew.ensures.errors in
+    let answer : c.from_residual.result ≡ Err e = search rules in
+    subst (λ r. IfErr r (IsWhyNotRenewedAt c.args.self.now c.args.slot.0)) (sym answer) why

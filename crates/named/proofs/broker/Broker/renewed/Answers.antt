@@ -5,6 +5,7 @@ use Rattle.persist.specs.Memory.{Words}
 use Rattle.arena.specs.Shape.{Counts}
 use Rattle.directory.specs.Sound.{AreBrokerWords, counts_in}
 use Rattle.renewal.specs.Broker.{IsBrokerRenewalOf, broker_renewed}
+use Rattle.named.specs.BrokerView.{broker_view}
 use Rattle.named.specs.Booting.{AreBootWords}
 use Rattle.named.specs.Brokers.{Brokered}
 use Rattle.named.specs.Renewing.{AreCountsFor, IsWhyUnrenewed}
@@ -15,14 +16,14 @@ use Rattle.named.proofs.broker.Broker.renewed.Goals as goal
 
 pub unreachable-requires : goal.unreachable-requires
 unreachable-requires c =
-    let b : Brokered = record { counts = c.self.inside.layout; words = c.self.inside.memory.words; slots = c.self.inside.slots.items; directory = c.self.inside.directory; creation = c.self.inside.creation; recovery = c.self.inside.recovery } in
+    let b : Brokered = broker_view c.self.inside in
     let kept : c.crash.new.self.words.kept ≡ b.words.kept = ap (λ (ws : Words). ws.kept) c.crash.ensures.words in
     let sound : AreBrokerWords c.crash.new.self.words.kept = subst AreBrokerWords (sym kept) (boots_well b c.self.invariant.well).broker in
     not_refused c.sound.result c.in_default.field-0 (c.sound.ensures.ok.1 sound) c.in_default.is
 
 pub renewed_broker-requires : goal.renewed_broker-requires
 renewed_broker-requires c =
-    let b : Brokered = record { counts = c.self.inside.layout; words = c.self.inside.memory.words; slots = c.self.inside.slots.items; directory = c.self.inside.directory; creation = c.self.inside.creation; recovery = c.self.inside.recovery } in
+    let b : Brokered = broker_view c.self.inside in
     let kept : c.crash.new.self.words.kept ≡ b.words.kept = ap (λ (ws : Words). ws.kept) c.crash.ensures.words in
     let crashed : c.crash.new.self.words.cached ≡ c.crash.new.self.words.kept =
     subst (λ (ws : Words). ws.cached ≡ ws.kept) (sym c.crash.ensures.words) refl in
@@ -33,7 +34,7 @@ renewed_broker-requires c =
 
 pub begin-requires-clause-sound : goal.begin-requires-clause-sound
 begin-requires-clause-sound c =
-    let b : Brokered = record { counts = c.self.inside.layout; words = c.self.inside.memory.words; slots = c.self.inside.slots.items; directory = c.self.inside.directory; creation = c.self.inside.creation; recovery = c.self.inside.recovery } in
+    let b : Brokered = broker_view c.self.inside in
     let kept : c.crash.new.self.words.kept ≡ b.words.kept = ap (λ (ws : Words). ws.kept) c.crash.ensures.words in
     let same : IsBrokerRenewalOf b.words.kept c.in_ok-to.to c.in_ok-words.words.items =
     subst (λ (ws : List ℕ). IsBrokerRenewalOf ws c.in_ok-to.to c.in_ok-words.words.items) kept c.in_ok-words.ensures.same in
@@ -89,7 +90,7 @@ pub returns-clause-renewed : goal.returns-clause-renewed
 returns-clause-renewed c =
     let old : List ℕ = c.args.self.words.kept in
     let to : Counts = record { clients = c.args.clients; records = c.args.records } in
-    let b : Brokered = record { counts = c.self.inside.layout; words = c.self.inside.memory.words; slots = c.self.inside.slots.items; directory = c.self.inside.directory; creation = c.self.inside.creation; recovery = c.self.inside.recovery } in
+    let b : Brokered = broker_view c.self.inside in
     let boots : AreBootWords old = subst (λ (x : Brokered). AreBootWords x.words.kept) c.self.view_is (boots_well b c.self.invariant.well) in
     let kept : c.crash.new.self.words.kept ≡ old =
     ap (λ (ws : Words). ws.kept) c.crash.ensures.words ∙ ap (λ (x : Brokered). x.words.kept) c.self.view_is in

@@ -2,6 +2,7 @@ use Rattle.std.proofs.Common.{rules, ◌≡◌, ◌≤◌, ◌<◌, length, slic
 use Rattle.std.specs.Prelude.{IsSome}
 use Rattle.std.proofs.lemmas.Option.{slice_get_read}
 use Rattle.interleave.specs.State.{State}
+use Rattle.named.specs.BrokerView.{broker_view}
 use Rattle.named.specs.Slots.{IsWhyUnread, world_in}
 use Rattle.named.specs.Brokers.{Brokered, room_at, room_of, world_at, world_of}
 use Rattle.named.proofs.acts.Continuity.{same_goes_on, broker_stays}
@@ -21,7 +22,7 @@ pub invariant_of-self : goal.invariant_of-self
 invariant_of-self c =
     let below : c.args.slot.0 < length c.self.inside.slots.items = search rules in
     let here : slice_get c.self.inside.slots.items c.args.slot.0 ≡ Some c.index_mut.result.now = slice_get_read c.self.inside.slots.items (length c.self.inside.slots.items) c.args.slot.0 c.index_mut.result.now refl below c.index_mut.ensures.value in
-    let b : Brokered = record { counts = c.self.inside.layout; words = c.self.inside.memory.words; slots = c.self.inside.slots.items; directory = c.self.inside.directory; creation = c.self.inside.creation; recovery = c.self.inside.recovery } in
+    let b : Brokered = broker_view c.self.inside in
     let well = slot_reserved c.self.inside.memory.words c.index_mut.result.now c.reserve.new.self (slot_is_well c.self.inside.layout c.self.inside.memory.words c.args.slot.0 c.index_mut.result.now (c.self.invariant.well.slots c.args.slot.0 c.index_mut.result.now here)) c.reserve.ensures.same (c.reserve.ensures.world c.self.inside.memory.words) in
     record {
       well = still_well b c.args.slot.0 c.index_mut.result.now c.reserve.new.self c.self.inside.memory.words c.self.invariant.well here well (same_outside c.self.inside.memory.words c.index_mut.result.now) c.reserve.ensures.same c.reserve.ensures.as_ready;
@@ -33,21 +34,21 @@ pub returns-clause-worlds : goal.returns-clause-worlds
 returns-clause-worlds c = λ at.
     let below : c.args.slot.0 < length c.self.inside.slots.items = search rules in
     let here : slice_get c.self.inside.slots.items c.args.slot.0 ≡ Some c.index_mut.result.now = slice_get_read c.self.inside.slots.items (length c.self.inside.slots.items) c.args.slot.0 c.index_mut.result.now refl below c.index_mut.ensures.value in
-    let b : Brokered = record { counts = c.self.inside.layout; words = c.self.inside.memory.words; slots = c.self.inside.slots.items; directory = c.self.inside.directory; creation = c.self.inside.creation; recovery = c.self.inside.recovery } in
+    let b : Brokered = broker_view c.self.inside in
     worlds_same b c.args.slot.0 c.index_mut.result.now c.reserve.new.self here (c.reserve.ensures.world c.self.inside.memory.words) at ∙ ap (λ (x : Brokered). world_at x at) c.self.view_is
 
 pub returns-clause-room : goal.returns-clause-room
 returns-clause-room c =
     let below : c.args.slot.0 < length c.self.inside.slots.items = search rules in
     let here : slice_get c.self.inside.slots.items c.args.slot.0 ≡ Some c.index_mut.result.now = slice_get_read c.self.inside.slots.items (length c.self.inside.slots.items) c.args.slot.0 c.index_mut.result.now refl below c.index_mut.ensures.value in
-    let b : Brokered = record { counts = c.self.inside.layout; words = c.self.inside.memory.words; slots = c.self.inside.slots.items; directory = c.self.inside.directory; creation = c.self.inside.creation; recovery = c.self.inside.recovery } in
+    let b : Brokered = broker_view c.self.inside in
     subst (λ n. OnOk c.reserve.result (c.args.acts ≤ n)) (sym (room_here b c.args.slot.0 c.index_mut.result.now c.reserve.new.self here)) c.reserve.ensures.room
 
 pub returns-clause-kept : goal.returns-clause-kept
 returns-clause-kept c = λ at.
     let below : c.args.slot.0 < length c.self.inside.slots.items = search rules in
     let here : slice_get c.self.inside.slots.items c.args.slot.0 ≡ Some c.index_mut.result.now = slice_get_read c.self.inside.slots.items (length c.self.inside.slots.items) c.args.slot.0 c.index_mut.result.now refl below c.index_mut.ensures.value in
-    let b : Brokered = record { counts = c.self.inside.layout; words = c.self.inside.memory.words; slots = c.self.inside.slots.items; directory = c.self.inside.directory; creation = c.self.inside.creation; recovery = c.self.inside.recovery } in
+    let b : Brokered = broker_view c.self.inside in
     subst (λ n. n ≤ room_of (slice_get (slice_set c.self.inside.slots.items c.args.slot.0 c.reserve.new.self) at)) (ap (λ (x : Brokered). room_at x at) c.self.view_is)
     (rooms_kept b c.args.slot.0 c.index_mut.result.now c.reserve.new.self here c.reserve.ensures.kept at)
 
@@ -78,7 +79,7 @@ returns-clause-promises c = promises_well _ (invariant_of-self c).well
 
 pub returns-clause-goes_on : goal.returns-clause-goes_on
 returns-clause-goes_on c =
-    let b : Brokered = record { counts = c.self.inside.layout; words = c.self.inside.memory.words; slots = c.self.inside.slots.items; directory = c.self.inside.directory; creation = c.self.inside.creation; recovery = c.self.inside.recovery } in
+    let b : Brokered = broker_view c.self.inside in
     let new : Brokered = record b { slots = slice_set b.slots c.args.slot.0 c.reserve.new.self } in
     same_goes_on c.args.self.now new (ap (λ (x : Brokered). x.counts) c.self.view_is) (ap (λ (x : Brokered). x.directory) c.self.view_is) (returns-clause-worlds c)
 

@@ -4,6 +4,7 @@ use Rattle.std.specs.Prelude.{is_some}
 use Rattle.std.specs.Vec.{with_items}
 use Rattle.std.proofs.lemmas.List.{with_items_is}
 use Rattle.words.specs.declared.refusal.Refusal.TheVariants.{NotReady}
+use Rattle.named.specs.BrokerView.{broker_view}
 use Rattle.named.specs.Brokers.{Brokered, IsWell, room_at, room_of, world_at, world_of}
 use Rattle.named.specs.Rotating.{AreBegunAnew, AreQuiet, IsRotated, has_calls_in}
 use Rattle.named.specs.declared.slot.Slot.{Slot}
@@ -15,7 +16,7 @@ use Rattle.named.proofs.broker.Broker.rotate.Goals as goal
 
 pub prepare_each-requires : goal.prepare_each-requires
 prepare_each-requires c =
-    let b : Brokered = record { counts = c.self.inside.layout; words = c.self.inside.memory.words; slots = c.self.inside.slots.items; directory = c.self.inside.directory; creation = c.self.inside.creation; recovery = c.self.inside.recovery } in
+    let b : Brokered = broker_view c.self.inside in
     let ready : b.recovery ≡ None =
     ready_there b.recovery c.check_ready.result (c.check_ready.ensures ∙ ap (λ (x : Brokered). if is_some x.recovery then Err NotReady else Ok tt) (sym c.self.view_is)) c.in_ok-check_ready.was in
     let nobody : list_any has_calls_in b.slots ≡ false =
@@ -24,7 +25,7 @@ prepare_each-requires c =
 
 pub begin_each-requires-clause-quiet : goal.begin_each-requires-clause-quiet
 begin_each-requires-clause-quiet c =
-    let b : Brokered = record { counts = c.self.inside.layout; words = c.self.inside.memory.words; slots = c.self.inside.slots.items; directory = c.self.inside.directory; creation = c.self.inside.creation; recovery = c.self.inside.recovery } in
+    let b : Brokered = broker_view c.self.inside in
     let ready : b.recovery ≡ None =
     ready_there b.recovery c.check_ready.result (c.check_ready.ensures ∙ ap (λ (x : Brokered). if is_some x.recovery then Err NotReady else Ok tt) (sym c.self.view_is)) c.in_ok-check_ready.was in
     let nobody : list_any has_calls_in b.slots ≡ false =
@@ -33,7 +34,7 @@ begin_each-requires-clause-quiet c =
 
 pub invariant_of-self : goal.invariant_of-self
 invariant_of-self c =
-    let b : Brokered = record { counts = c.self.inside.layout; words = c.self.inside.memory.words; slots = c.self.inside.slots.items; directory = c.self.inside.directory; creation = c.self.inside.creation; recovery = c.self.inside.recovery } in
+    let b : Brokered = broker_view c.self.inside in
     let anew : List Slot = c.begin_each.new.slots in
     let begun : AreBegunAnew b.words b.slots anew = subst (λ (l : List Slot). AreBegunAnew b.words l anew) c.deref_mut.ensures.value c.begin_each.ensures in
     let written : (with_items c.self.inside.slots anew).items ≡ anew = with_items_is c.self.inside.slots anew (begun.count ∙ sym c.self.inside.slots.ok.0) in
@@ -45,7 +46,7 @@ invariant_of-self c =
 
 pub returns-clause-rotated : goal.returns-clause-rotated
 returns-clause-rotated c = λ ok.
-    let b : Brokered = record { counts = c.self.inside.layout; words = c.self.inside.memory.words; slots = c.self.inside.slots.items; directory = c.self.inside.directory; creation = c.self.inside.creation; recovery = c.self.inside.recovery } in
+    let b : Brokered = broker_view c.self.inside in
     let anew : List Slot = c.begin_each.new.slots in
     let begun : AreBegunAnew b.words b.slots anew = subst (λ (l : List Slot). AreBegunAnew b.words l anew) c.deref_mut.ensures.value c.begin_each.ensures in
     let written : (with_items c.self.inside.slots anew).items ≡ anew = with_items_is c.self.inside.slots anew (begun.count ∙ sym c.self.inside.slots.ok.0) in
@@ -58,7 +59,7 @@ returns-clause-rotated c = λ ok.
 
 pub returns-clause-room : goal.returns-clause-room
 returns-clause-room c = λ at.
-    let b : Brokered = record { counts = c.self.inside.layout; words = c.self.inside.memory.words; slots = c.self.inside.slots.items; directory = c.self.inside.directory; creation = c.self.inside.creation; recovery = c.self.inside.recovery } in
+    let b : Brokered = broker_view c.self.inside in
     let anew : List Slot = c.begin_each.new.slots in
     let begun : AreBegunAnew b.words b.slots anew = subst (λ (l : List Slot). AreBegunAnew b.words l anew) c.deref_mut.ensures.value c.begin_each.ensures in
     let written : (with_items c.self.inside.slots anew).items ≡ anew = with_items_is c.self.inside.slots anew (begun.count ∙ sym c.self.inside.slots.ok.0) in

@@ -1,5 +1,6 @@
 use Rattle.std.proofs.Common.{◌≡◌, Ok, slice_get, slice_set, Some, sym, subst, ap, ◌∙◌}
 use Rattle.std.proofs.lemmas.Option.{slice_get_read}
+use Rattle.named.specs.BrokerView.{broker_view}
 use Rattle.named.specs.Acting.{IsAloneAt, IsSameBeside}
 use Rattle.named.specs.Brokers.{Brokered, IsWell, admission}
 use Rattle.named.specs.GoingOn.{BrokerGoesOn}
@@ -13,7 +14,7 @@ use Rattle.named.proofs.broker.Broker.run_alone.Goals as goal
 
 pub run_alone-requires : goal.run_alone-requires
 run_alone-requires c =
-    let b : Brokered = record { counts = c.self.inside.layout; words = c.self.inside.memory.words; slots = c.self.inside.slots.items; directory = c.self.inside.directory; creation = c.self.inside.creation; recovery = c.self.inside.recovery } in
+    let b : Brokered = broker_view c.self.inside in
     let was : Slot = c.index_mut.result.now in
     let here : slice_get b.slots c.args.slot.0 ≡ Some was =
     slice_get_read b.slots 8 c.args.slot.0 was (sym c.self.invariant.well.count) c.if-slot-ge-SLOTS.false c.index_mut.ensures.value in
@@ -25,7 +26,7 @@ run_alone-requires c =
 
 pub invariant_of-self : goal.invariant_of-self
 invariant_of-self c =
-    let b : Brokered = record { counts = c.self.inside.layout; words = c.self.inside.memory.words; slots = c.self.inside.slots.items; directory = c.self.inside.directory; creation = c.self.inside.creation; recovery = c.self.inside.recovery } in
+    let b : Brokered = broker_view c.self.inside in
     let was : Slot = c.index_mut.result.now in
     let here : slice_get b.slots c.args.slot.0 ≡ Some was =
     slice_get_read b.slots 8 c.args.slot.0 was (sym c.self.invariant.well.count) c.if-slot-ge-SLOTS.false c.index_mut.ensures.value in
@@ -33,7 +34,7 @@ invariant_of-self c =
 
 pub returns-clause-alone : goal.returns-clause-alone
 returns-clause-alone c =
-    let b : Brokered = record { counts = c.self.inside.layout; words = c.self.inside.memory.words; slots = c.self.inside.slots.items; directory = c.self.inside.directory; creation = c.self.inside.creation; recovery = c.self.inside.recovery } in
+    let b : Brokered = broker_view c.self.inside in
     let was : Slot = c.index_mut.result.now in
     let here : slice_get b.slots c.args.slot.0 ≡ Some was =
     slice_get_read b.slots 8 c.args.slot.0 was (sym c.self.invariant.well.count) c.if-slot-ge-SLOTS.false c.index_mut.ensures.value in
@@ -44,7 +45,7 @@ returns-clause-alone c =
 
 pub returns-clause-goes_on : goal.returns-clause-goes_on
 returns-clause-goes_on c =
-    let b : Brokered = record { counts = c.self.inside.layout; words = c.self.inside.memory.words; slots = c.self.inside.slots.items; directory = c.self.inside.directory; creation = c.self.inside.creation; recovery = c.self.inside.recovery } in
+    let b : Brokered = broker_view c.self.inside in
     let was : Slot = c.index_mut.result.now in
     let here : slice_get b.slots c.args.slot.0 ≡ Some was =
     slice_get_read b.slots 8 c.args.slot.0 was (sym c.self.invariant.well.count) c.if-slot-ge-SLOTS.false c.index_mut.ensures.value in
@@ -55,7 +56,7 @@ returns-clause-goes_on c =
 
 pub returns-clause-beside : goal.returns-clause-beside
 returns-clause-beside c =
-    let b : Brokered = record { counts = c.self.inside.layout; words = c.self.inside.memory.words; slots = c.self.inside.slots.items; directory = c.self.inside.directory; creation = c.self.inside.creation; recovery = c.self.inside.recovery } in
+    let b : Brokered = broker_view c.self.inside in
     let was : Slot = c.index_mut.result.now in
     let here : slice_get b.slots c.args.slot.0 ≡ Some was =
     slice_get_read b.slots 8 c.args.slot.0 was (sym c.self.invariant.well.count) c.if-slot-ge-SLOTS.false c.index_mut.ensures.value in

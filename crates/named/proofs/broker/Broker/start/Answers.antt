@@ -2,6 +2,7 @@ use Rattle.std.proofs.Common.{◌≡◌, Ok, slice_get, slice_set, Some, sym, su
 use Rattle.std.proofs.lemmas.Option.{slice_get_read}
 use Rattle.protocol.specs.declared.acts.Act.TheVariants.{Start}
 use Rattle.interleave.specs.Rules.{starting}
+use Rattle.named.specs.BrokerView.{broker_view}
 use Rattle.named.specs.Acting.{IsActAt, IsSameBeside}
 use Rattle.named.specs.Brokers.{Brokered, IsWell, admission}
 use Rattle.named.specs.GoingOn.{BrokerGoesOn}
@@ -15,7 +16,7 @@ use Rattle.named.proofs.broker.Broker.start.Goals as goal
 
 pub start-requires : goal.start-requires
 start-requires c =
-    let b : Brokered = record { counts = c.self.inside.layout; words = c.self.inside.memory.words; slots = c.self.inside.slots.items; directory = c.self.inside.directory; creation = c.self.inside.creation; recovery = c.self.inside.recovery } in
+    let b : Brokered = broker_view c.self.inside in
     let was : Slot = c.index_mut.result.now in
     let here : slice_get b.slots c.args.slot.0 ≡ Some was =
     slice_get_read b.slots 8 c.args.slot.0 was (sym c.self.invariant.well.count) c.if-slot-ge-SLOTS.false c.index_mut.ensures.value in
@@ -26,7 +27,7 @@ start-requires c =
 
 pub invariant_of-self : goal.invariant_of-self
 invariant_of-self c =
-    let b : Brokered = record { counts = c.self.inside.layout; words = c.self.inside.memory.words; slots = c.self.inside.slots.items; directory = c.self.inside.directory; creation = c.self.inside.creation; recovery = c.self.inside.recovery } in
+    let b : Brokered = broker_view c.self.inside in
     let was : Slot = c.index_mut.result.now in
     let here : slice_get b.slots c.args.slot.0 ≡ Some was =
     slice_get_read b.slots 8 c.args.slot.0 was (sym c.self.invariant.well.count) c.if-slot-ge-SLOTS.false c.index_mut.ensures.value in
@@ -34,7 +35,7 @@ invariant_of-self c =
 
 pub returns-clause-act : goal.returns-clause-act
 returns-clause-act c =
-    let b : Brokered = record { counts = c.self.inside.layout; words = c.self.inside.memory.words; slots = c.self.inside.slots.items; directory = c.self.inside.directory; creation = c.self.inside.creation; recovery = c.self.inside.recovery } in
+    let b : Brokered = broker_view c.self.inside in
     let was : Slot = c.index_mut.result.now in
     let here : slice_get b.slots c.args.slot.0 ≡ Some was =
     slice_get_read b.slots 8 c.args.slot.0 was (sym c.self.invariant.well.count) c.if-slot-ge-SLOTS.false c.index_mut.ensures.value in
@@ -45,7 +46,7 @@ returns-clause-act c =
 
 pub returns-clause-goes_on : goal.returns-clause-goes_on
 returns-clause-goes_on c =
-    let b : Brokered = record { counts = c.self.inside.layout; words = c.self.inside.memory.words; slots = c.self.inside.slots.items; directory = c.self.inside.directory; creation = c.self.inside.creation; recovery = c.self.inside.recovery } in
+    let b : Brokered = broker_view c.self.inside in
     let was : Slot = c.index_mut.result.now in
     let here : slice_get b.slots c.args.slot.0 ≡ Some was =
     slice_get_read b.slots 8 c.args.slot.0 was (sym c.self.invariant.well.count) c.if-slot-ge-SLOTS.false c.index_mut.ensures.value in
@@ -56,7 +57,7 @@ returns-clause-goes_on c =
 
 pub returns-clause-beside : goal.returns-clause-beside
 returns-clause-beside c =
-    let b : Brokered = record { counts = c.self.inside.layout; words = c.self.inside.memory.words; slots = c.self.inside.slots.items; directory = c.self.inside.directory; creation = c.self.inside.creation; recovery = c.self.inside.recovery } in
+    let b : Brokered = broker_view c.self.inside in
     let was : Slot = c.index_mut.result.now in
     let here : slice_get b.slots c.args.slot.0 ≡ Some was =
     slice_get_read b.slots 8 c.args.slot.0 was (sym c.self.invariant.well.count) c.if-slot-ge-SLOTS.false c.index_mut.ensures.value in

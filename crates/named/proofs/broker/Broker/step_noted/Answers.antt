@@ -4,6 +4,7 @@ use Rattle.persist.specs.Noted.{answer_in}
 use Rattle.protocol.specs.declared.acts.Act.TheVariants.{Step}
 use Rattle.interleave.specs.Rules.{stepping}
 use Rattle.interleave.proofs.Facts.{get_set}
+use Rattle.named.specs.BrokerView.{broker_view}
 use Rattle.named.specs.Slots.{room_in}
 use Rattle.named.specs.Acting.{IsActAt, IsSameBeside}
 use Rattle.named.specs.Brokers.{Brokered, IsWell, admission, room_at, room_of}
@@ -18,7 +19,7 @@ use Rattle.named.proofs.broker.Broker.step_noted.Goals as goal
 
 pub step-requires : goal.step-requires
 step-requires c =
-    let b : Brokered = record { counts = c.self.inside.layout; words = c.self.inside.memory.words; slots = c.self.inside.slots.items; directory = c.self.inside.directory; creation = c.self.inside.creation; recovery = c.self.inside.recovery } in
+    let b : Brokered = broker_view c.self.inside in
     let was : Slot = c.index_mut.result.now in
     let here : slice_get b.slots c.args.slot.0 ≡ Some was =
     slice_get_read b.slots 8 c.args.slot.0 was (sym c.self.invariant.well.count) c.if-slot-ge-SLOTS.false c.index_mut.ensures.value in
@@ -30,7 +31,7 @@ step-requires c =
 
 pub invariant_of-self : goal.invariant_of-self
 invariant_of-self c =
-    let b : Brokered = record { counts = c.self.inside.layout; words = c.self.inside.memory.words; slots = c.self.inside.slots.items; directory = c.self.inside.directory; creation = c.self.inside.creation; recovery = c.self.inside.recovery } in
+    let b : Brokered = broker_view c.self.inside in
     let was : Slot = c.index_mut.result.now in
     let here : slice_get b.slots c.args.slot.0 ≡ Some was =
     slice_get_read b.slots 8 c.args.slot.0 was (sym c.self.invariant.well.count) c.if-slot-ge-SLOTS.false c.index_mut.ensures.value in
@@ -38,7 +39,7 @@ invariant_of-self c =
 
 pub returns-clause-act : goal.returns-clause-act
 returns-clause-act c =
-    let b : Brokered = record { counts = c.self.inside.layout; words = c.self.inside.memory.words; slots = c.self.inside.slots.items; directory = c.self.inside.directory; creation = c.self.inside.creation; recovery = c.self.inside.recovery } in
+    let b : Brokered = broker_view c.self.inside in
     let was : Slot = c.index_mut.result.now in
     let here : slice_get b.slots c.args.slot.0 ≡ Some was =
     slice_get_read b.slots 8 c.args.slot.0 was (sym c.self.invariant.well.count) c.if-slot-ge-SLOTS.false c.index_mut.ensures.value in
@@ -49,7 +50,7 @@ returns-clause-act c =
 
 pub returns-clause-goes_on : goal.returns-clause-goes_on
 returns-clause-goes_on c =
-    let b : Brokered = record { counts = c.self.inside.layout; words = c.self.inside.memory.words; slots = c.self.inside.slots.items; directory = c.self.inside.directory; creation = c.self.inside.creation; recovery = c.self.inside.recovery } in
+    let b : Brokered = broker_view c.self.inside in
     let was : Slot = c.index_mut.result.now in
     let here : slice_get b.slots c.args.slot.0 ≡ Some was =
     slice_get_read b.slots 8 c.args.slot.0 was (sym c.self.invariant.well.count) c.if-slot-ge-SLOTS.false c.index_mut.ensures.value in
@@ -60,7 +61,7 @@ returns-clause-goes_on c =
 
 pub returns-clause-beside : goal.returns-clause-beside
 returns-clause-beside c =
-    let b : Brokered = record { counts = c.self.inside.layout; words = c.self.inside.memory.words; slots = c.self.inside.slots.items; directory = c.self.inside.directory; creation = c.self.inside.creation; recovery = c.self.inside.recovery } in
+    let b : Brokered = broker_view c.self.inside in
     let was : Slot = c.index_mut.result.now in
     let here : slice_get b.slots c.args.slot.0 ≡ Some was =
     slice_get_read b.slots 8 c.args.slot.0 was (sym c.self.invariant.well.count) c.if-slot-ge-SLOTS.false c.index_mut.ensures.value in
@@ -93,7 +94,7 @@ returns-then-slot-ge-SLOTS-clause-promises c = promises_kept _ _ c.self.invarian
 
 pub returns-clause-stays : goal.returns-clause-stays
 returns-clause-stays c = λ e.
-    let b : Brokered = record { counts = c.self.inside.layout; words = c.self.inside.memory.words; slots = c.self.inside.slots.items; directory = c.self.inside.directory; creation = c.self.inside.creation; recovery = c.self.inside.recovery } in
+    let b : Brokered = broker_view c.self.inside in
     let was : Slot = c.index_mut.result.now in
     let here : slice_get b.slots c.args.slot.0 ≡ Some was =
     slice_get_read b.slots 8 c.args.slot.0 was (sym c.self.invariant.well.count) c.if-slot-ge-SLOTS.false c.index_mut.ensures.value in

@@ -1,4 +1,5 @@
 use Rattle.std.proofs.Common.{subst}
+use Rattle.named.specs.BrokerView.{broker_view}
 use Rattle.named.specs.Booting.{AreBootWords}
 use Rattle.named.specs.Brokers.{Brokered}
 use Rattle.named.proofs.promises.Promises.{boots_well}
@@ -6,5 +7,5 @@ use Rattle.named.proofs.broker.Broker.to_image.Goals as goal
 
 pub returns-clause-boots : goal.returns-clause-boots
 returns-clause-boots c =
-    let b : Brokered = record { counts = c.self.inside.layout; words = c.self.inside.memory.words; slots = c.self.inside.slots.items; directory = c.self.inside.directory; creation = c.self.inside.creation; recovery = c.self.inside.recovery } in
+    let b : Brokered = broker_view c.self.inside in
     subst (λ (x : Brokered). AreBootWords x.words.kept) c.self.view_is (boots_well b c.self.invariant.well)
