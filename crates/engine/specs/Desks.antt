@@ -3,10 +3,11 @@ use Rattle.std.specs.Prelude.{ℕ, true, false, List, Option}
 use Rattle.devices.specs.declared.device.Writer.{Ghosts as Writer}
 use Rattle.engine.specs.declared.desk.Desk.{Ghosts as Desk}
 use Rattle.engine.specs.declared.lines.Progress.{Progress}
+use Rattle.engine.specs.declared.reply.Reply.{Reply}
 use Rattle.engine.specs.Handled.{RepliesAsFar, RepliesUntilFault}
-use Rattle.engine.specs.Lines.{lines_of}
-use Rattle.engine.specs.Output.{AreHeld, SendsSettled}
-use Rattle.engine.specs.Replies.{Meaning}
+use Rattle.engine.specs.Lines.{last_line_of, lines_of}
+use Rattle.engine.specs.Output.{AreHeld, Moves, SendsSettled, SettlesFor}
+use Rattle.engine.specs.Replies.{Meaning, reply_line}
 use Rattle.engine.specs.Serving.{HasInput, Serves, ServesWhatWasRead}
 use Rattle.engine.specs.Settled.{AreTold, SomeAreTold}
 
@@ -26,6 +27,13 @@ module _ {D W : Type 0} (desk : Desk D) (writer : Writer W) (old new : D) (befor
       (SomeAreTold (desk.served old) (desk.settled old) (desk.settled new) (writer.written before)
       (writer.written after))
 
+  -- So it is of the last line, if these are any bytes of it; or of a beginning of its reply.
+  abbrev pub ServesLast : Meaning → List ℕ → Type 0
+  ServesLast meaning bytes = ServesAll meaning (last_line_of bytes)
+
+  abbrev pub BeginsLast : Meaning → List ℕ → Type 0
+  BeginsLast meaning bytes = ServesSome meaning (last_line_of bytes)
+
   -- So it is of the lines of an input, which is the reader's where that is known; or of the first of them.
   abbrev pub ServesWhole : Meaning → Option (List ℕ) → Type 0
   ServesWhole meaning left = HasInput left (λ input. ServesAll meaning (lines_of input))
@@ -41,21 +49,21 @@ module _ {D W : Type 0} (desk : Desk D) (writer : Writer W) (old new : D) (befor
       (AreTold (desk.served old) (desk.settled old) (desk.settled new) (writer.written before) (writer.written after)))
 
   -- The lines of these bytes have, as far as the progress says.
-  abbrev pub ServesAsFar : Meaning → Progress → List ℕ → Type 0
-  ServesAsFar meaning progress bytes =
+  abbrev pub ServesAsFar : Meaning → List ℕ → Progress → Type 0
+  ServesAsFar meaning bytes progress =
       RepliesAsFar meaning progress bytes (desk.served old) (desk.served new)
       (AreTold (desk.served old) (desk.settled old) (desk.settled new) (writer.written before) (writer.written after))
 
   -- So they have, and of their text these bytes are held still.
-  abbrev pub HoldsAsFar : Meaning → Progress → List ℕ → List ℕ → Type 0
-  HoldsAsFar meaning progress bytes held =
+  abbrev pub HoldsAsFar : Meaning → List ℕ → List ℕ → Progress → Type 0
+  HoldsAsFar meaning bytes held progress =
       RepliesAsFar meaning progress bytes (desk.served old) (desk.served new)
       (AreHeld (desk.served old) (desk.settled old) (desk.settled new) (writer.written before) (writer.written after)
       held)
 
-  -- They have, as far as the writer and the desk went.
-  abbrev pub ServesUntilFault : Meaning → List ℕ → Type 0
-  ServesUntilFault meaning bytes =
+  -- The first of these lines have, as far as the writer and the desk went: a fault of one of them cut off the others.
+  abbrev pub CutByFault : Meaning → List ℕ → Type 0
+  CutByFault meaning bytes =
       RepliesUntilFault meaning bytes (desk.served old) (desk.served new)
       (SomeAreTold (desk.served old) (desk.settled old) (desk.settled new) (writer.written before)
       (writer.written after))
@@ -65,3 +73,16 @@ module _ {D W : Type 0} (desk : Desk D) (writer : Writer W) (old new : D) (befor
   Sends held =
       SendsSettled (desk.served old) (desk.settled old) (desk.settled new) (writer.written before)
       (writer.written after) held
+
+-- a writer before and after
+module _ {W : Type 0} (writer : Writer W) (before after : W) where
+  -- Of the bytes that were held, with the text of this reply behind them, the first were written, and the others are
+  -- held.
+  abbrev pub Puts : List ℕ → List ℕ → Reply → Type 0
+  Puts held held_after reply = Moves (writer.written before) (writer.written after) held held_after (reply_line reply)
+
+-- a desk before and after
+module _ {D : Type 0} (desk : Desk D) (old new : D) where
+  -- All that was served is settled; or no byte was held, and nothing more is settled.
+  abbrev pub Settles : List ℕ → Type 0
+  Settles held = SettlesFor held (desk.served old) (desk.settled old) (desk.settled new)

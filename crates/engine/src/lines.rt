@@ -2,8 +2,7 @@
 
 ghost use Rattle.std.specs.Prelude.{◌≡◌, ◌<◌, ◌+◌, [], IfOk, OnOk, OnErr};
 ghost use Rattle.devices.specs.Devices.{IsFlushed};
-ghost use Rattle.engine.specs.Desks.{HoldsAsFar, ServesAll, ServesAsFar, ServesSome, ServesUntilFault};
-ghost use Rattle.engine.specs.Lines.{last_line_of};
+ghost use Rattle.engine.specs.Desks.{BeginsLast, HoldsAsFar, ServesAsFar, CutByFault, ServesLast};
 ghost use Rattle.engine.specs.Output.{write_failures_of, settle_failures_of};
 
 use crate::desk::Desk;
@@ -36,10 +35,11 @@ fn put_replies<T: Wait, P: Reading, W: Writer, D: Desk>(
     requires writer { W.failures writer.old < MAX_FAILURES }
     requires desk { D.failures desk.old < MAX_FAILURES }
     requires empty { output.old.items ≡ [] }
-    ensures put { IfOk result (λ progress. HoldsAsFar D.Desk W.Writer desk.old desk.new writer.old writer.new
-        P.meaning progress bytes.now output.new.items) }
+    // Long, since the desk and the writer are named before and after, and what is held beside.
+    ensures put { IfOk result
+        (HoldsAsFar D.Desk W.Writer desk.old desk.new writer.old writer.new P.meaning bytes.now output.new.items) }
     ensures fault { OnErr result
-        (ServesUntilFault D.Desk W.Writer desk.old desk.new writer.old writer.new P.meaning bytes.now) }
+        (CutByFault D.Desk W.Writer desk.old desk.new writer.old writer.new P.meaning bytes.now) }
     ensures write_failures { W.failures writer.new ≡ W.failures writer.old + write_failures_of result }
     ensures settle_failures { D.failures desk.new ≡ D.failures desk.old + settle_failures_of result }
 {
@@ -69,12 +69,12 @@ pub fn reply_lines<T: Wait, P: Reading, W: Writer, D: Desk>(
     requires writer { W.failures writer.old < MAX_FAILURES }
     requires desk { D.failures desk.old < MAX_FAILURES }
     requires empty { output.old.items ≡ [] }
-    ensures told { IfOk result (λ progress.
-        ServesAsFar D.Desk W.Writer desk.old desk.new writer.old writer.new P.meaning progress bytes.now) }
+    ensures told { IfOk result
+        (ServesAsFar D.Desk W.Writer desk.old desk.new writer.old writer.new P.meaning bytes.now) }
     ensures flushed { OnOk result (IsFlushed (W.written writer.new) (W.flushed writer.new)) }
     ensures empty { OnOk result (output.new.items ≡ []) }
     ensures fault { OnErr result
-        (ServesUntilFault D.Desk W.Writer desk.old desk.new writer.old writer.new P.meaning bytes.now) }
+        (CutByFault D.Desk W.Writer desk.old desk.new writer.old writer.new P.meaning bytes.now) }
     ensures write_failures { W.failures writer.new ≡ W.failures writer.old + write_failures_of result }
     ensures settle_failures { D.failures desk.new ≡ D.failures desk.old + settle_failures_of result }
 {
@@ -97,10 +97,10 @@ pub fn reply_last_line<T: Wait, P: Reading, W: Writer, D: Desk>(
     requires desk { D.failures desk.old < MAX_FAILURES }
     requires empty { output.old.items ≡ [] }
     ensures told { OnOk result
-        (ServesAll D.Desk W.Writer desk.old desk.new writer.old writer.new P.meaning (last_line_of bytes.now)) }
+        (ServesLast D.Desk W.Writer desk.old desk.new writer.old writer.new P.meaning bytes.now) }
     ensures flushed { OnOk result (IsFlushed (W.written writer.new) (W.flushed writer.new)) }
     ensures fault { OnErr result
-        (ServesSome D.Desk W.Writer desk.old desk.new writer.old writer.new P.meaning (last_line_of bytes.now)) }
+        (BeginsLast D.Desk W.Writer desk.old desk.new writer.old writer.new P.meaning bytes.now) }
     ensures write_failures { W.failures writer.new ≡ W.failures writer.old + write_failures_of result }
     ensures settle_failures { D.failures desk.new ≡ D.failures desk.old + settle_failures_of result }
 {

@@ -3,9 +3,8 @@
 ghost use Rattle.std.specs.Prelude.{◌≡◌, ◌≢◌, ◌<◌, ◌+◌, [], OnOk, OnErr};
 ghost use Rattle.std.specs.Io.KnownBytes.{Appends};
 ghost use Rattle.devices.specs.Devices.{IsFlushed};
-ghost use Rattle.engine.specs.Desks.{Sends};
-ghost use Rattle.engine.specs.Output.{write_failures_of, settle_failures_of, Moves, SettlesFor};
-ghost use Rattle.engine.specs.Replies.{reply_line};
+ghost use Rattle.engine.specs.Desks.{Puts, Sends, Settles};
+ghost use Rattle.engine.specs.Output.{write_failures_of, settle_failures_of};
 
 use crate::desk::Desk;
 use crate::limits::OUTPUT_BYTES;
@@ -38,8 +37,7 @@ pub fn send_settled<T: Wait, W: Writer, D: Desk>(
     requires writer { W.failures writer.old < MAX_FAILURES }
     requires desk { D.failures desk.old < MAX_FAILURES }
     ensures sent { OnOk result (Appends (W.written writer.old) (W.written writer.new) output.now.items) }
-    ensures settled { OnOk result
-        (SettlesFor output.now.items (D.served desk.old) (D.settled desk.old) (D.settled desk.new)) }
+    ensures settled { OnOk result (Settles D.Desk desk.old desk.new output.now.items) }
     ensures flushed { OnOk result (IsFlushed (W.written writer.new) (W.flushed writer.new)) }
     ensures unsent { OnErr result
         (Sends D.Desk W.Writer desk.old desk.new writer.old writer.new output.now.items) }
@@ -72,8 +70,7 @@ pub fn put<T: Wait, W: Writer, D: Desk>(
 ) -> Result<(), Unsent>
     requires writer { W.failures writer.old < MAX_FAILURES }
     requires desk { D.failures desk.old < MAX_FAILURES }
-    ensures put { OnOk result
-        (Moves (W.written writer.old) (W.written writer.new) output.old.items output.new.items (reply_line reply.now)) }
+    ensures put { OnOk result (Puts W.Writer writer.old writer.new output.old.items output.new.items reply.now) }
     ensures some { OnOk result (output.new.items ≢ []) }
     ensures settled { Sends D.Desk W.Writer desk.old desk.new writer.old writer.new output.old.items }
     ensures served { D.served desk.new ≡ D.served desk.old }

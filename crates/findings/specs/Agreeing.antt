@@ -9,7 +9,7 @@ use Rattle.events.specs.declared.event.Order.{Order}
 use Rattle.events.specs.Explains.{IsExplained}
 use Rattle.events.specs.Orders.{IsTakenAs}
 use Rattle.events.specs.Telling.{IsOutcome}
-use Rattle.findings.specs.Findings.{Agrees, IsLearnt}
+use Rattle.findings.specs.Findings.{Agrees, ExplainsFindings, IsLearnt}
 
 -- what was learnt of the call at p is so in the order
 pub record AgreesAt (learnt : List (Option Outcome)) (order : List Entry) (p : ℕ) : Type 0 where
@@ -37,3 +37,7 @@ IsAgreed (Taken reply) (Some other) = other ≡ reply
 abbrev pub IsRight : History → List (Option Outcome) → Order → Type 0
 IsRight history learnt order =
     IsExplained history order × ((history.base.items ≡ []) × Agrees learnt order.entries.items)
+
+-- the order explains what is known of the history's calls: what they returned, and what was learnt of them
+abbrev pub ExplainsKnown : History → List (Option Outcome) → Order → Type 0
+ExplainsKnown history learnt order = ExplainsFindings history.events.items learnt order.entries.items

@@ -2,8 +2,8 @@
 
 ghost use Rattle.std.specs.Prelude.{◌≡◌, ◌<◌, ◌≤◌, ◌+◌, ◌↔◌, length, EachIndex, IfErr, IfOk, IsTrue};
 ghost use Rattle.events.specs.Orders.{IsNew};
-ghost use Rattle.findings.specs.Agreeing.{AgreesAt, IsAgreed, IsRight, IsTableOf};
-ghost use Rattle.findings.specs.Findings.{Agrees, ExplainsFindings};
+ghost use Rattle.findings.specs.Agreeing.{AgreesAt, ExplainsKnown, IsAgreed, IsRight, IsTableOf};
+ghost use Rattle.findings.specs.Findings.{Agrees};
 
 use events::{Entry, History, Order, is_same_reply};
 use history::check;
@@ -93,8 +93,7 @@ pub fn explains_known(
     order: &Order,
 ) -> Result<bool, Refusal>
     ensures right { IfOk result (λ yes. IsTrue yes ↔ IsRight history.now learnt.now order.now) }
-    ensures explained { IfOk result (λ yes. IsTrue yes
-        → ExplainsFindings history.now.events.items learnt.now order.now.entries.items) }
+    ensures explained { IfOk result (λ yes. IsTrue yes → ExplainsKnown history.now learnt.now order.now) }
     ensures errors { IfErr result (λ e. e ≡ Refusal.NoMemory) }
 {
     if !check(history, order) {

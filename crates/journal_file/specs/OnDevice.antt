@@ -1,10 +1,11 @@
 -- Journals on a device.
 use Rattle.std.specs.Prelude.{◌≡◌, ◌⊎◌, ℕ, ◌≤◌, ◌<◌, Bool, true, false, List, [], ◌∷◌, ◌++◌, Option, length, take, IfSome}
 use Rattle.words.specs.declared.refusal.Refusal.{Refusal}
-use Rattle.words.specs.declared.refusal.Refusal.TheVariants.{NoRoom, WriteFailed}
+use Rattle.words.specs.declared.refusal.Refusal.TheVariants.{BadCount, NoMemory, NoRoom, WriteFailed}
+use Rattle.persist.specs.Image.{AreWords}
 use Rattle.persist.specs.declared.access.Change.{Change}
 use Rattle.journal.specs.Frame.{Batch}
-use Rattle.journal.specs.Journal.{End, IsJournal, MayRefuseFrame, end_of, journal_of, words_after}
+use Rattle.journal.specs.Journal.{End, IsJournal, MayNotBegin, MayRefuseFrame, end_of, journal_of, words_after}
 use Rattle.journal_file.specs.declared.on_device.TheConstants.{MAX_SIZE}
 
 -- a journal with its device, as contracts see it
@@ -50,6 +51,27 @@ pub record IsOf (key base : List ℕ) (batches : List Batch) (count : ℕ) (j : 
 abbrev pub IsSomeJournal : OnDevice → Type 0
 IsSomeJournal j = (key base : List ℕ) × (batches : List Batch) × (count : ℕ) × IsOf key base batches count j
 
+-- what is said of a journal on a device, with its key, its first words and its batches, and how many of these were
+-- there when all was last kept
+abbrev pub Saying : Type 1
+Saying = (key base : List ℕ) → List Batch → ℕ → OnDevice → Type 0
+
+-- so it is of each journal; of each whose device has not failed; of each whose device has
+abbrev pub IsSoOfEach : Saying → Type 0
+IsSoOfEach IsSo =
+    (key base : List ℕ) (batches : List Batch) (count : ℕ) (j : OnDevice)
+    → IsOf key base batches count j → IsSo key base batches count j
+
+abbrev pub IsSoOfRunning : Saying → Type 0
+IsSoOfRunning IsSo =
+    (key base : List ℕ) (batches : List Batch) (count : ℕ) (j : OnDevice)
+    → IsOf key base batches count j → j.failed ≡ false → IsSo key base batches count j
+
+abbrev pub IsSoOfFailed : Saying → Type 0
+IsSoOfFailed IsSo =
+    (key base : List ℕ) (batches : List Batch) (count : ℕ) (j : OnDevice)
+    → IsOf key base batches count j → j.failed ≡ true → IsSo key base batches count j
+
 -- it has this batch more
 abbrev pub HasMore : Batch → OnDevice → OnDevice → Type 0
 HasMore batch old new =
@@ -74,3 +96,8 @@ MayRefuseAppend old changes new e =
     (e ≡ WriteFailed) × (new.failed ≡ true)
     ⊎ (e ≡ NoRoom) × (MAX_SIZE < old.size) × (new ≡ old)
     ⊎ MayRefuseFrame (length old.words) changes e × (new ≡ old)
+
+-- a journal of these words may be refused so: they are too few or too many, or memory is refused, or the device fails
+abbrev pub MayRefuseBegin : List ℕ → Refusal → Type 0
+MayRefuseBegin words e =
+    (e ≡ BadCount) × MayNotBegin words ⊎ (e ≡ NoMemory) × AreWords words ⊎ (e ≡ WriteFailed) × AreWords words

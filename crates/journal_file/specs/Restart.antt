@@ -1,5 +1,5 @@
 -- What a journal is read as after a stop of the machine.
-use Rattle.std.specs.Prelude.{◌≡◌, ℕ, ◌≤◌, List, ◌++◌, Some, length, take}
+use Rattle.std.specs.Prelude.{◌≡◌, ℕ, ◌≤◌, List, ◌++◌, Some, IfSome, length, take}
 use Rattle.journal.specs.Frame.{Batch}
 use Rattle.journal.specs.Journal.{words_after}
 use Rattle.journal.specs.Reading.{ReadsAs}
@@ -30,3 +30,7 @@ abbrev pub EachKillMayHaveMore : List ℕ → List ℕ → List Batch → ℕ �
 EachKillMayHaveMore key base batches count j =
     (bytes : List ℕ) (n : ℕ) → j.appended ≡ Some bytes → j.lasting ≤ n
     → (more : List Batch) × (length more ≤ 1) × ReadsBeginning key base (batches ++ more) count (take n bytes)
+
+-- what its device has is read as its words, and nothing is cut off
+abbrev pub IsReadWhole : List ℕ → List ℕ → List Batch → ℕ → OnDevice → Type 0
+IsReadWhole key base batches count j = IfSome j.appended (ReadsAs key j.words 0)

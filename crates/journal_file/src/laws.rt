@@ -1,15 +1,11 @@
 //! What holds of every journal on a device.
 
-ghost use Rattle.std.specs.Prelude.{◌≡◌, ℕ, List, true, false, IfSome};
-ghost use Rattle.journal.specs.Frame.{Batch};
-ghost use Rattle.journal.specs.Reading.{ReadsAs};
-ghost use Rattle.journal_file.specs.OnDevice.{IsOf, OnDevice};
-ghost use Rattle.journal_file.specs.Restart.{EachKillHas, EachKillMayHaveMore, EachStopHas};
+ghost use Rattle.journal_file.specs.OnDevice.{IsSoOfEach, IsSoOfFailed, IsSoOfRunning};
+ghost use Rattle.journal_file.specs.Restart.{EachKillHas, EachKillMayHaveMore, EachStopHas, IsReadWhole};
 
 /// What a device has that has not failed is read as the journal's words, and nothing is cut off.
 pub fn running_journals_are_read()
-    ensures { (key base : List ℕ) (batches : List Batch) (count : ℕ) (j : OnDevice)
-        → IsOf key base batches count j → j.failed ≡ false → IfSome j.appended (ReadsAs key j.words 0) }
+    ensures { IsSoOfRunning IsReadWhole }
 {}
 
 /// A restart: what is left of a journal is read as the words after a beginning of its batches, which has all that were
@@ -17,10 +13,7 @@ pub fn running_journals_are_read()
 /// from the front on but what was not kept, and `failed` for such a device that has failed: then it may have the frame
 /// of one batch more, whose append was answered by an error.
 pub fn restarts_have_what_was_kept()
-    ensures stopped { (key base : List ℕ) (batches : List Batch) (count : ℕ) (j : OnDevice)
-        → IsOf key base batches count j → EachStopHas key base batches count j }
-    ensures killed { (key base : List ℕ) (batches : List Batch) (count : ℕ) (j : OnDevice)
-        → IsOf key base batches count j → j.failed ≡ false → EachKillHas key base batches count j }
-    ensures failed { (key base : List ℕ) (batches : List Batch) (count : ℕ) (j : OnDevice)
-        → IsOf key base batches count j → j.failed ≡ true → EachKillMayHaveMore key base batches count j }
+    ensures stopped { IsSoOfEach EachStopHas }
+    ensures killed { IsSoOfRunning EachKillHas }
+    ensures failed { IsSoOfFailed EachKillMayHaveMore }
 {}

@@ -50,13 +50,12 @@ impl<F: Appender + Drop> Model for Journal<F> {
 }
 
 impl<F: Appender + Drop> Journal<F> {
-    ghost use Rattle.persist.specs.Image.{AreWords};
     ghost use Rattle.persist.specs.Noted.{applied};
     ghost use Rattle.journal.specs.Frame.{batch_of};
-    ghost use Rattle.journal.specs.Journal.{MayNotBegin};
     ghost use Rattle.journal.specs.Reading.{ReadsAs};
     ghost use Rattle.journal_file.specs.Appended.{IsFresh};
-    ghost use Rattle.journal_file.specs.OnDevice.{HasMore, HasNoMore, IsOf, IsSomeJournal, KeepsAll, MayRefuseAppend};
+    ghost use Rattle.journal_file.specs.OnDevice.{HasMore, HasNoMore, IsOf, IsSomeJournal, KeepsAll};
+    ghost use Rattle.journal_file.specs.OnDevice.{MayRefuseAppend, MayRefuseBegin};
 
     /// A journal of these words and no batch, which is kept. The device is to have no byte yet. It is refused where
     /// there is no word, or there are more than 8,388,608 (BadCount), then where memory is (NoMemory), and where the
@@ -70,9 +69,7 @@ impl<F: Appender + Drop> Journal<F> {
         requires { IsFresh (F.appended device) }
         ensures journal { IfOk result (IsOf key.now words.items [] 0) }
         ensures going { IfOk result (λ j. j.failed ≡ false) }
-        ensures errors { IfErr result (λ e. (e ≡ Refusal.BadCount) × MayNotBegin words.items
-            ⊎ (e ≡ Refusal.NoMemory) × AreWords words.items
-            ⊎ (e ≡ Refusal.WriteFailed) × AreWords words.items) }
+        ensures errors { IfErr result (MayRefuseBegin words.items) }
     {
         let (head, writer) = Writer::begin(alloc, key, &words)?;
         let mut device = device;

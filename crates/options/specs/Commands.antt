@@ -14,7 +14,7 @@ option_rule name = record (new_rule name) { long = Some name; action = Some Set;
 abbrev pub flag_rule : Text → Rule
 flag_rule name = record (new_rule name) { long = Some name; action = Some SetTrue }
 
--- a command has no option that holds for its subcommands, too
+-- neither a command nor a subcommand of it has an argument that holds for the commands below, too
 abbrev pub HasNoGlobals : Command → Type 0
 HasNoGlobals command = (out-Command command).has_globals ≡ false
 

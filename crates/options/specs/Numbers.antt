@@ -1,5 +1,5 @@
 -- What an option that is a number comes to.
-use Rattle.std.specs.Prelude.{ℕ, ◌≤◌, List, Option, Some, None, ⊤, option_map}
+use Rattle.std.specs.Prelude.{ℕ, ◌≤◌, List, Option, Some, None, OkIff, Result, ⊤, option_map}
 use Rattle.std.specs.Borrow.{Bor}
 use Rattle.std.specs.Str.Parse.{IsNumeral, digits_value, without_leading_plus}
 
@@ -25,3 +25,8 @@ Fits least most (Some text) = IsWithin least most text
 abbrev pub number_of : ℕ → Option (List ℕ) → ℕ
 number_of default None = default
 number_of default (Some text) = decimal_value text
+
+-- an option with these limits and this default is read from the text that is given: its number, if it fits, and else an
+-- error
+abbrev pub IsReadFrom : {E : Type 0} → Option (List ℕ) → (least most default : ℕ) → Result ℕ E → Type 0
+IsReadFrom given least most default result = OkIff result (Fits least most given) (number_of default given)

@@ -1,6 +1,6 @@
 -- What the words of a command line ask of `pqx`.
 use Rattle.std.specs.Prelude.{◌≡◌, ◌≢◌, ◌⊎◌, List, [], Option, Some, None, codes, option_map, ⊤}
-use Rattle.clap.specs.Words.{Text, IsAmong, fault_of, kind_of, subcommand_of}
+use Rattle.clap.specs.Words.{Row, Text, IsAmong, fault_of, kind_of, subcommand_of}
 use Rattle.clap.specs.declared.error.Error.{Error}
 use Rattle.clap.specs.declared.error.kind.ErrorKind.TheVariants.{OutOfMemory, ValueValidation}
 use Rattle.options.specs.Asked.{name_in, values_in}
@@ -83,6 +83,14 @@ pub record AllFit (given : Text → Option Text) : Type 0 where
   pub count : Fits 0 MAX_POINT (given (codes "count"))
   pub task : IsTask (given (codes "task"))
   pub taken : AreTaken (given (codes "task")) given
+
+-- the command that a parse met asks this, with what its options were given
+abbrev pub MetAsks : Option (Text × List Row) → PqxAsked → Type 0
+MetAsks met o = Asks (name_in met) (values_in met) o
+
+-- what its options were given fits
+abbrev pub MetFits : Option (Text × List Row) → Type 0
+MetFits met = AllFit (values_in met)
 
 -- the words ask this, and clap finds no fault with them
 pub record IsPqxAsked (words : List Text) (o : PqxAsked) : Type 0 where

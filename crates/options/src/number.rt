@@ -1,8 +1,7 @@
 //! Options that are numbers.
 
 ghost use Rattle.std.specs.Prelude.{◌≤◌, IfOk};
-ghost use Rattle.std.specs.Result.{OkIff};
-ghost use Rattle.options.specs.Numbers.{Fits, given_text, number_of};
+ghost use Rattle.options.specs.Numbers.{IsReadFrom, given_text};
 
 use std::fmt;
 
@@ -32,8 +31,7 @@ impl NumberOption {
 
     /// The number that is given, or the default where none is.
     pub(crate) fn read(self, given: Option<&str>) -> Result<u32, Misfit>
-        ensures number { OkIff result (Fits self.least self.most (given_text given.entry))
-            (number_of self.default (given_text given.entry)) }
+        ensures number { IsReadFrom (given_text given.entry) self.least self.most self.default result }
         ensures range { IfOk result (λ n. (self.least ≤ n) × (n ≤ self.most)) }
     {
         let Some(text) = given else {

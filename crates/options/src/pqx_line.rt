@@ -3,11 +3,10 @@
 ghost use Rattle.std.specs.Prelude.{◌≡◌, IfOk, IfErr, OnErr, Some, codes, map, option_map};
 ghost use Rattle.std.specs.Result.{OkIff};
 ghost use Rattle.clap.specs.Words.{first_value, found_of, kind_of, subcommand_rows_of};
-ghost use Rattle.options.specs.Asked.{name_in, values_in};
 ghost use Rattle.options.specs.declared.limits.TheConstants.{DEFAULT_DRAW, MAX_DRAW, MAX_POINT};
-ghost use Rattle.options.specs.Numbers.{Fits, decimal_value, given_text, number_of};
+ghost use Rattle.options.specs.Numbers.{Fits, IsReadFrom, decimal_value, given_text};
 ghost use Rattle.options.specs.PqxAsked.{AllFit, AreTaken, Asks, AsksBrokerPoints, AsksCheck, AsksPoints, AsksRun};
-ghost use Rattle.options.specs.PqxAsked.{Chooses, IsChoice, IsPqxAsked, IsTask, RefusesPqx};
+ghost use Rattle.options.specs.PqxAsked.{Chooses, IsChoice, IsPqxAsked, IsTask, MetAsks, MetFits, RefusesPqx};
 
 use crate::limits::DEFAULT_DRAW;
 use crate::pqx::{BrokerPointOptions, CheckOptions, Choice, PointOptions, PqxAsked, RunOptions};
@@ -60,8 +59,7 @@ fn choice(given: Option<&str>) -> Result<Choice, Misfit>
 
 /// The state that is given, or the default where none is.
 fn draw(given: Option<&str>) -> Result<u64, Misfit>
-    ensures { OkIff result (Fits 0 MAX_DRAW (given_text given.entry))
-        (number_of DEFAULT_DRAW (given_text given.entry)) }
+    ensures { IsReadFrom (given_text given.entry) 0 MAX_DRAW DEFAULT_DRAW result }
 {
     let Some(text) = given else {
         return Ok(DEFAULT_DRAW);
@@ -71,7 +69,7 @@ fn draw(given: Option<&str>) -> Result<u64, Misfit>
 
 /// The first point that is given, or the very first where none is.
 fn first_point(given: Option<&str>) -> Result<u64, Misfit>
-    ensures { OkIff result (Fits 0 MAX_POINT (given_text given.entry)) (number_of 0 (given_text given.entry)) }
+    ensures { IsReadFrom (given_text given.entry) 0 MAX_POINT 0 result }
 {
     let Some(text) = given else {
         return Ok(0);
@@ -185,9 +183,8 @@ fn asked_by<'a>(command: &str, given: &ArgMatches<'a>) -> Result<PqxAsked<'a>, M
 
 /// What a parse found to be asked.
 fn asked<'a>(matches: &ArgMatches<'a>) -> Result<PqxAsked<'a>, Misfit>
-    ensures asked { IfOk result
-        (Asks (name_in (subcommand_rows_of matches.now)) (values_in (subcommand_rows_of matches.now))) }
-    ensures misfit { OnErr result (¬ (AllFit (values_in (subcommand_rows_of matches.now)))) }
+    ensures asked { IfOk result (MetAsks (subcommand_rows_of matches.now)) }
+    ensures misfit { OnErr result (¬ (MetFits (subcommand_rows_of matches.now))) }
 {
     match matches.subcommand() {
         Some((command, given)) => asked_by(command, given),

@@ -1,5 +1,5 @@
 -- The JSON object that each answer is written as, and what a client learns by it.
-use Rattle.std.specs.Prelude.{◌<◌, ◌^◌, ℕ, List, [], ◌∷◌, codes, None, Some, ⊤}
+use Rattle.std.specs.Prelude.{◌≡◌, ◌<◌, ◌^◌, ℕ, List, [], ◌∷◌, codes, None, Some, ⊤}
 use Rattle.hex.specs.Hex.{encode_lower}
 use Rattle.serde_json.specs.Data.{Data, unsigned, number, string, array, object, Items, no_items, item, Members, no_members, member}
 use Rattle.words.specs.PlainQueue.{FitsValue, Value}
@@ -17,6 +17,7 @@ use Rattle.words.specs.declared.told.Told.TheVariants as told
 use Rattle.directory.specs.Directory.{Directory}
 use Rattle.directory.specs.Name.{IsName}
 use Rattle.directory.specs.declared.queue.Queue.{Queue}
+use Rattle.replies.specs.Texts.{answer_text}
 use Rattle.wire.specs.Kinds.{kind_text}
 use Rattle.wire.specs.declared.answer.Answer.{Answer}
 use Rattle.wire.specs.declared.answer.Answer.TheVariants as answer
@@ -136,3 +137,7 @@ pub data Learnt : Type 0 where
 abbrev pub learnt_by : Answer → Learnt
 learnt_by (answer.Queues places) = listed (queues_in places)
 learnt_by answer = said answer
+
+-- if two answers have one text, a client learns the same by both
+abbrev pub AreLearntAlike : Answer → Answer → Type 0
+AreLearntAlike one other = answer_text one ≡ answer_text other → learnt_by one ≡ learnt_by other

@@ -1,5 +1,5 @@
 -- The JSON object that asks each request.
-use Rattle.std.specs.Prelude.{◌≡◌, ◌≤◌, ◌<◌, ◌^◌, ℕ, List, codes, Some, None}
+use Rattle.std.specs.Prelude.{◌≡◌, ◌≤◌, ◌<◌, ◌^◌, ℕ, List, codes, Some, None, Ok}
 use Rattle.hex.specs.Hex.{encode_lower}
 use Rattle.serde_json.specs.Data.{Data, unsigned, number, string, object, Members, no_members, member}
 use Rattle.serde_json.specs.Written.{compact_text}
@@ -9,6 +9,7 @@ use Rattle.words.specs.declared.limits.TheConstants.{MAX_CALL_NUMBER}
 use Rattle.wire.specs.declared.request.Request.{Request}
 use Rattle.wire.specs.declared.request.Request.TheVariants.{Create, List as ListAll, Put, Take, Told, Crash, Recover, Stop}
 use Rattle.wire.specs.Kinds.{kind_text}
+use Rattle.requests.specs.Line.{meaning}
 use Rattle.requests.specs.Rows.{name_in}
 
 -- a message is written as a text of two lowercase hexadecimal digits for each byte
@@ -64,3 +65,7 @@ MayAsk text (Told c q) = (name_in text ≡ q) × (c < 2 ^ 64)
 MayAsk text Crash = Unit {0}
 MayAsk text Recover = Unit {0}
 MayAsk text Stop = Unit {0}
+
+-- the line that asks the request means it
+abbrev pub IsMeant : List ℕ → Request → Type 0
+IsMeant text request = meaning (line_asking text request) ≡ Ok request

@@ -1,13 +1,11 @@
 //! What holds of the lines.
 
-ghost use Rattle.std.specs.Prelude.{◌≡◌, ℕ, List, Ok, IsUtf8};
+ghost use Rattle.std.specs.Prelude.{ℕ, List, IsUtf8};
 ghost use Rattle.wire.specs.declared.request.Request.{Request};
-ghost use Rattle.requests.specs.Line.{meaning};
-ghost use Rattle.requests.specs.Objects.{line_asking, MayAsk};
+ghost use Rattle.requests.specs.Objects.{IsMeant, MayAsk};
 
 /// Each request can be asked: the compact JSON text of its row is a line that means it.
 #[tactic(auto, using(crate::proofs::Lines::asked_by_line))]
 pub fn requests_can_be_asked()
-    ensures { (text : List ℕ) (request : Request) → IsUtf8 text → MayAsk text request
-        → meaning (line_asking text request) ≡ Ok request }
+    ensures { (text : List ℕ) (request : Request) → IsUtf8 text → MayAsk text request → IsMeant text request }
 {}
