@@ -95,6 +95,11 @@ abbrev pub AnswersCall : Sessioned → List Entry → Asked → Answer → List 
 AnswersCall first old asked answer new =
     StaysOpen old answer new ⊎ IsNotMade old asked answer new ⊎ RemembersCall first old asked answer new
 
+-- so it is of what a request asks for, if it is a put or a take
+abbrev pub AnswersAsked : Sessioned → List Entry → Request → Answer → List Entry → Type 0
+AnswersAsked first old request answer new =
+    IfSome (asked_in request) (λ asked. AnswersCall first old asked answer new)
+
 -- what is answered to a number that was settled with this reply: the reply, or such a refusal
 abbrev pub IsSettledOnWire : AnyReply → Answer → Type 0
 IsSettledOnWire reply (Reply given) = given ≡ reply

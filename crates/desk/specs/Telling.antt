@@ -1,5 +1,5 @@
 -- Replies that the lists of seats have, at sessions that were marked.
-use Rattle.std.specs.Prelude.{◌≡◌, ℕ, List, None, Option, Some, slice_get}
+use Rattle.std.specs.Prelude.{◌≡◌, ℕ, IfSome, List, None, Option, Some, slice_get}
 use Rattle.words.specs.declared.call.Client.{Client}
 use Rattle.words.specs.declared.call.Reply.{Reply as AnyReply}
 use Rattle.session.specs.Sessions.{Sessioned}
@@ -36,6 +36,11 @@ pub record IsReplied (first now : Sessioned) (client : Client) (asked : Asked) (
 abbrev pub IsRepliedIf : Sessioned → Sessioned → Client → Option Asked → Answer → Type 0
 IsRepliedIf first now client (Some asked) (Reply reply) = IsReplied first now client asked reply
 IsRepliedIf first now client _ _ = Unit {0}
+
+-- where sessions are marked, it stands there at the one that is marked now
+abbrev pub IsRepliedAtMark : Sessioned → Option Sessioned → Client → Request → Answer → Type 0
+IsRepliedAtMark first marked client request answer =
+    IfSome marked (λ now. IsRepliedIf first now client (asked_in request) answer)
 
 -- who asks, by a put or a take
 abbrev pub client_in : Request → Client

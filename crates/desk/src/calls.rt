@@ -1,7 +1,8 @@
 //! Puts and takes, each with its client's seat.
 
 ghost use Rattle.std.specs.Prelude.{◌≡◌, IfErr, IfNone, IfOk, IfSome, IsErr, IsNone, IsTrue, OnErr, OnOk, true};
-ghost use Rattle.desk.specs.Calls.{answer_on_wire, asked_in, AnswersCall, AnswersSettled, IsOfNoName, IsSettled, why_nameless};
+ghost use Rattle.desk.specs.Calls.{answer_on_wire, asked_in, AnswersAsked, AnswersCall, AnswersSettled};
+ghost use Rattle.desk.specs.Calls.{IsOfNoName, IsSettled, why_nameless};
 ghost use Rattle.wire.specs.declared.answer.Answer.{Answer as AnyAnswer};
 ghost use Rattle.desk.specs.Requests.{is_call_answer, is_nameless_refusal};
 ghost use Rattle.workers.specs.Lists.{ends_open};
@@ -135,8 +136,7 @@ pub fn answer_at_seat<J: Naming, R: Wait>(
     request: Request,
 ) -> (Seat<J>, Answer)
     ensures client { result.0.client ≡ seat.client }
-    ensures entry { IfSome (asked_in request) (λ asked.
-        AnswersCall J.first seat.list.items asked result.1 result.0.list.items) }
+    ensures entry { AnswersAsked J.first seat.list.items request result.1 result.0.list.items }
     ensures settled { IfSome (asked_in request) (λ asked. AnswersSettled J.first seat.client asked result.1) }
     ensures nameless { IfSome (asked_in request) (λ asked.
         IsNone asked.queue → IsTrue (is_nameless_refusal result.1)) }

@@ -3,7 +3,7 @@
 ghost use Rattle.std.specs.Prelude.{◌≡◌, ◌<◌, ◌≤◌, IfErr, IfOk, IfSome, IsNone, IsTrue};
 ghost use Rattle.desk.specs.Calls.{asked_in, IsNamelessAnswer};
 ghost use Rattle.desk.specs.Requests.{is_call_answer, is_no_room};
-ghost use Rattle.desk.specs.Telling.{GoesOnMarked, IsRepliedIf};
+ghost use Rattle.desk.specs.Telling.{GoesOnMarked, IsRepliedAtMark};
 ghost use Rattle.desk.specs.Worth.{IsWorthIt};
 ghost use Rattle.wire.specs.declared.answer.Answer.{Answer as AnyAnswer};
 ghost use Rattle.workers.specs.Refusals.{is_call_refusal};
@@ -46,8 +46,7 @@ impl<J: Naming> Renewed<J> {
     ) -> Answer
         ensures fits { IfSome (asked_in request.now) (λ asked. IsTrue (is_call_answer result)) }
         ensures nameless { IsNamelessAnswer request.now result }
-        ensures told { IfSome counter.new.marked (λ now.
-            IsRepliedIf J.first now client (asked_in request.now) result) }
+        ensures told { IsRepliedAtMark J.first counter.new.marked client request.now result }
         ensures later { GoesOnMarked counter.old.marked counter.new.marked }
     {
         let Renewed {
@@ -65,8 +64,7 @@ impl<J: Naming> Counter<'_, J> {
     fn call_once<R: Wait>(&mut self, rt: &R, client: Client, request: &Request) -> Answer
         ensures fits { IfSome (asked_in request.now) (λ asked. IsTrue (is_call_answer result)) }
         ensures nameless { IsNamelessAnswer request.now result }
-        ensures told { IfSome self.new.marked (λ now.
-            IsRepliedIf J.first now client (asked_in request.now) result) }
+        ensures told { IsRepliedAtMark J.first self.new.marked client request.now result }
         ensures later { GoesOnMarked self.old.marked self.new.marked }
     {
         let Some((owed, seat)) = self.seats.take(rt, client) else {
@@ -118,8 +116,7 @@ impl<J: Naming> Counter<'_, J> {
         requires { client.0 < J.clients }
         ensures fits { IfSome (asked_in request.now) (λ asked. IsTrue (is_call_answer result)) }
         ensures nameless { IsNamelessAnswer request.now result }
-        ensures told { IfSome self.new.marked (λ now.
-            IsRepliedIf J.first now client (asked_in request.now) result) }
+        ensures told { IsRepliedAtMark J.first self.new.marked client request.now result }
         ensures later { GoesOnMarked self.old.marked self.new.marked }
     {
         // Another connection may have renewed the queue meanwhile.
@@ -140,8 +137,7 @@ impl<J: Naming> Counter<'_, J> {
     fn call_at_work<R: Wait>(&mut self, rt: &R, client: Client, request: &Request) -> Answer
         ensures fits { IfSome (asked_in request.now) (λ asked. IsTrue (is_call_answer result)) }
         ensures nameless { IsNamelessAnswer request.now result }
-        ensures told { IfSome self.new.marked (λ now.
-            IsRepliedIf J.first now client (asked_in request.now) result) }
+        ensures told { IsRepliedAtMark J.first self.new.marked client request.now result }
         ensures later { GoesOnMarked self.old.marked self.new.marked }
     {
         let _work = self.seats.at_work(rt);
@@ -157,8 +153,7 @@ impl<J: Naming> Counter<'_, J> {
         ensures fits { IfSome (asked_in request) (λ asked. IsTrue (is_call_answer result)) }
         ensures nameless { IsNamelessAnswer request result }
         ensures client { J.clients ≤ number → result ≡ AnyAnswer.Refused Refusal.NoClient }
-        ensures told { IfSome self.new.marked (λ now.
-            IsRepliedIf J.first now (record { 0 = number }) (asked_in request) result) }
+        ensures told { IsRepliedAtMark J.first self.new.marked (record { 0 = number }) request result }
         ensures later { GoesOnMarked self.old.marked self.new.marked }
     {
         let Some(client) = self.seats.client(number) else {

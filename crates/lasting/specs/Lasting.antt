@@ -1,5 +1,5 @@
 -- Journals of shared sessions, of which each beginning ends at a moment, and the later of two goes on from the earlier.
-use Rattle.std.specs.Prelude.{◌≡◌, ◌≤◌, ◌++◌, [], ⊤, ℕ, List, length, take, All, Ok, Some}
+use Rattle.std.specs.Prelude.{◌≡◌, ◌≤◌, ◌++◌, [], ⊤, ℕ, false, List, length, take, All, Ok, Some}
 use Rattle.persist.specs.declared.access.Change.{Change}
 use Rattle.persist.specs.Noted.{applied}
 use Rattle.journal.specs.Frame.{Batch}
@@ -8,7 +8,7 @@ use Rattle.journal.specs.Reading.{reading}
 use Rattle.journal.specs.Stops.{LeftByStop}
 use Rattle.journal_file.specs.OnDevice.{IsOf, OnDevice}
 use Rattle.session.specs.Sessions.{Sessioned}
-use Rattle.workers.specs.Moments.{GoesOnLater, IsMomentOf}
+use Rattle.workers.specs.Moments.{GoesOnLater, HandedOn, IsMomentOf}
 use Rattle.lasting.specs.declared.policy.Policy.{Policy}
 use Rattle.lasting.specs.declared.policy.Policy.TheVariants.{Always, EachSecond, Never}
 
@@ -67,6 +67,17 @@ pub record Kept : Type 0 where
   pub journal : OnDevice
   pub assured : List Sessioned
 
+-- such a journal, with who hands changes on for it
+abbrev pub kept_with : Policy → HandedOn → (pending : List Change) → OnDevice → Kept
+kept_with policy handed pending journal = record {
+  policy = policy;
+  handed = handed.changes;
+  last = handed.last;
+  pending = pending;
+  journal = journal;
+  assured = handed.assured;
+}
+
 -- the journal has the changes that are not pending. It ends at a moment from which that of the last hand-on goes on,
 -- and where nothing is pending it ends at that one. The session that a stop leaves goes on from each that was assured
 pub record IsKept (first : Sessioned) (k : Kept) : Type 0 where
@@ -77,6 +88,14 @@ pub record IsKept (first : Sessioned) (k : Kept) : Type 0 where
   pub journal : HasMomentsUntil first k.last k.journal
   pub latest : k.pending ≡ [] → EndsAtMomentOf first k.last k.journal
   pub assured : All (λ s. GoesOnLater s (sure_session first k.journal k.policy journal.has)) k.assured
+
+-- so it is of each journal that has moments; and of each of those whose device has not failed
+abbrev pub IsSoOfMoments : ((first : Sessioned) (j : OnDevice) → HasMoments first j → Type 0) → Type 0
+IsSoOfMoments IsSo = (first : Sessioned) (j : OnDevice) (has : HasMoments first j) → IsSo first j has
+
+abbrev pub IsSoOfRunning : ((first : Sessioned) (j : OnDevice) → HasMoments first j → Type 0) → Type 0
+IsSoOfRunning IsSo =
+    (first : Sessioned) (j : OnDevice) (has : HasMoments first j) → j.failed ≡ false → IsSo first j has
 
 -- Bytes are read as the words of a moment, after a beginning of the batches that has so many of them at least. Its
 -- session goes on from that of each shorter beginning

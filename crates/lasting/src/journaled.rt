@@ -3,6 +3,7 @@
 ghost use Rattle.std.specs.Prelude.{◌≡◌, ◌⊎◌, ◌++◌, ◌∷◌, [], false, true, IfErr, IfOk, OnErr, OnOk};
 ghost use Rattle.persist.specs.Noted.{applied};
 ghost use Rattle.lasting.specs.Lasting.{Assures, EndsAtMomentOf, HasMoments, HasMomentsUntil, IsKept, IsKeptBy};
+ghost use Rattle.lasting.specs.Lasting.{kept_with};
 ghost use Rattle.session.specs.Keeping.{SessionGoesOn};
 ghost use Rattle.session.specs.Promises.{KeepsNumbers};
 ghost use Rattle.workers.specs.Moments.{GoesOnLater, IsMomentOf};
@@ -363,14 +364,7 @@ impl<J: Naming, F: Appender + Drop> Journaled<J, F> {
         rest: Vec<Change>,
         journal: Journal<F>,
     ) -> (Journal<F>, Result<(), Refusal>)
-        requires { IsKept J.first (record {
-          policy = policy;
-          handed = handed.changes;
-          last = handed.last;
-          pending = rest.items;
-          journal = journal;
-          assured = handed.assured;
-        }) }
+        requires { IsKept J.first (kept_with policy handed rest.items journal) }
         ensures words { OnOk result.1 (result.0.words ≡ applied handed.changes J.first.broker.words.kept) }
         ensures kept { OnOk result.1 (result.0.kept ≡ result.0.size) }
         ensures moments { HasMoments J.first result.0 }

@@ -1,8 +1,9 @@
 //! What holds of every journal of a shared session.
+// A law's clause begins with all that it speaks of, so some of them are longer than 120 columns.
 
-ghost use Rattle.std.specs.Prelude.{◌≡◌, false};
 ghost use Rattle.journal_file.specs.OnDevice.{OnDevice};
-ghost use Rattle.lasting.specs.Lasting.{Assures, EachKillHasMoment, EachStopHasLater, EachStopHasMoment, HasMoments};
+ghost use Rattle.lasting.specs.Lasting.{Assures, EachKillHasMoment, EachStopHasLater, EachStopHasMoment};
+ghost use Rattle.lasting.specs.Lasting.{IsSoOfMoments, IsSoOfRunning};
 ghost use Rattle.lasting.specs.declared.policy.Policy.{Policy};
 ghost use Rattle.session.specs.Promises.{KeepsNumbers};
 ghost use Rattle.session.specs.Sessions.{Sessioned};
@@ -20,9 +21,8 @@ pub fn firsts_are_moments()
 /// before. So it is of a device that has not failed and loses nothing from the front on but what was not kept
 /// (`killed`).
 pub fn stops_leave_a_moment()
-    ensures stopped { (first : Sessioned) (j : OnDevice) (has : HasMoments first j) → EachStopHasMoment first j has }
-    ensures killed { (first : Sessioned) (j : OnDevice) (has : HasMoments first j) → j.failed ≡ false
-        → EachKillHasMoment first j has }
+    ensures stopped { IsSoOfMoments EachStopHasMoment }
+    ensures killed { IsSoOfRunning EachKillHasMoment }
 {}
 
 /// What a stop leaves of a journal that assures a session is read as the words of a moment whose session goes on from

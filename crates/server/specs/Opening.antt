@@ -1,7 +1,8 @@
 -- How a broker begins to serve on the words that an image keeps.
-use Rattle.std.specs.Prelude.{◌≡◌, ◌⊎◌, ℕ, Bool, true, false, List, [], Option, Some, None, Result, Ok, Err}
+use Rattle.std.specs.Prelude.{◌≡◌, ◌<◌, ◌⊎◌, ℕ, Bool, true, false, List, [], Option, Some, None, Result, Ok, Err}
+use Rattle.words.specs.declared.limits.TheConstants.{MAX_CLIENTS}
 use Rattle.words.specs.declared.refusal.Refusal.{Refusal}
-use Rattle.words.specs.declared.refusal.Refusal.TheVariants.{BadCount, NoMemory}
+use Rattle.words.specs.declared.refusal.Refusal.TheVariants.{BadClients, BadCount, BadRecords, NoMemory}
 use Rattle.persist.specs.Image.{reading, reading_v1}
 use Rattle.persist.specs.Memory.{Words, words_at_rest}
 use Rattle.arena.specs.Content.{kept_content as content_of}
@@ -25,6 +26,14 @@ use Rattle.named.specs.Migrating.{IsMigrated}
 use Rattle.named.specs.Renewing.{AreToldAsBefore, IsRenewed, IsWhyUnrenewed}
 use Rattle.named.specs.Stopping.{IsRecoveryStep}
 use Rattle.interleave.specs.Telling.{IsToldAtReady}
+
+-- there are no clients, or too many
+abbrev pub AreBadClients : ℕ → Type 0
+AreBadClients clients = (clients ≡ 0) ⊎ (MAX_CLIENTS < clients)
+
+-- why a broker is not made
+abbrev pub IsWhyUnmade : Refusal → Type 0
+IsWhyUnmade refusal = (refusal ≡ BadClients) ⊎ (refusal ≡ BadRecords) ⊎ (refusal ≡ NoMemory)
 
 -- steps of recovery alone, none of them refused, lead from the one broker to the other
 pub data Recovers (old : Brokered) : Brokered → Type 0 where

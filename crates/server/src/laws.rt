@@ -1,4 +1,5 @@
 //! What holds of every restart.
+// A law's clause begins with all that it speaks of, so some of them are longer than 120 columns.
 
 ghost use Rattle.std.specs.Prelude.{List, ℕ};
 ghost use Rattle.persist.specs.Memory.{words_at_rest};

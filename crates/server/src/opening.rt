@@ -1,18 +1,19 @@
 //! How a broker begins to serve.
 
-ghost use Rattle.std.specs.Prelude.{◌≡◌, ◌⊎◌, ◌<◌, ◌≤◌, ◌↔◌, Err, IfErr, IfNone, IfOk, IfSome, OnOk};
+ghost use Rattle.std.specs.Prelude.{◌≡◌, ◌↔◌, Err, IfErr, IfNone, IfOk, IfSome, OnOk};
 ghost use Rattle.persist.specs.Image.{has_first_form};
 ghost use Rattle.persist.specs.Memory.{Words};
-ghost use Rattle.arena.specs.Limits.{AreCounts};
-ghost use Rattle.named.specs.Brokers.{IsNew};
+ghost use Rattle.arena.specs.Limits.{AreBadRecords, AreCounts};
+ghost use Rattle.named.specs.Brokers.{counts_of, IsNew};
 ghost use Rattle.named.specs.Promises.{KeepsPromises};
 ghost use Rattle.session.specs.Sessions.{IsUncalled};
-ghost use Rattle.server.specs.Opening.{HasBegunFrom, HasBegunOn, IsOpened, IsOpenedBy, IsRenewedBy, IsWhyNotRenewed, IsWhyUnopened};
+ghost use Rattle.server.specs.Opening.{AreBadClients, HasBegunFrom, HasBegunOn, IsOpened, IsOpenedBy};
+ghost use Rattle.server.specs.Opening.{IsRenewedBy, IsWhyNotRenewed, IsWhyUnmade, IsWhyUnopened};
 
 use named::Broker;
 use persist::{Memory, is_first_form};
 use std::alloc::Global;
-use words::{MAX_CLIENTS, MAX_RECORDS, Refusal};
+use words::Refusal;
 
 /// The broker that an image keeps, as it begins to recover. Bytes that are no image are refused as
 /// [`Memory::from_image`] says, an image as [`Broker::boot`] is. One of the first form is read by
@@ -53,14 +54,11 @@ pub fn opened(
     records: u32,
     image: Option<&[u8]>,
 ) -> Result<Broker, Refusal>
-    ensures made { IfNone image.entry (IfOk result (IsNew (record { clients = clients; records = records }))) }
+    ensures made { IfNone image.entry (IfOk result (IsNew (counts_of clients records))) }
     ensures counts { IfNone image.entry (OnOk result (AreCounts clients records)) }
-    ensures bad_clients { IfNone image.entry
-        (result ≡ Err Refusal.BadClients ↔ ((clients ≡ 0) ⊎ (MAX_CLIENTS < clients))) }
-    ensures bad_records { IfNone image.entry (result ≡ Err Refusal.BadRecords ↔
-        ((1 ≤ clients) × (clients ≤ MAX_CLIENTS) × ((records ≡ 0) ⊎ (MAX_RECORDS < records)))) }
-    ensures unmade { IfNone image.entry (IfErr result (λ e.
-        (e ≡ Refusal.BadClients) ⊎ (e ≡ Refusal.BadRecords) ⊎ (e ≡ Refusal.NoMemory))) }
+    ensures bad_clients { IfNone image.entry (result ≡ Err Refusal.BadClients ↔ AreBadClients clients) }
+    ensures bad_records { IfNone image.entry (result ≡ Err Refusal.BadRecords ↔ AreBadRecords clients records) }
+    ensures unmade { IfNone image.entry (IfErr result IsWhyUnmade) }
     ensures opened { IfSome image.entry (λ bytes. IfOk result (IsOpenedBy (has_first_form bytes.now) bytes.now)) }
     ensures unopened { IfSome image.entry (λ bytes.
         IfErr result (IsWhyUnopened (has_first_form bytes.now) bytes.now)) }
@@ -77,10 +75,9 @@ pub fn opened(
 /// many records of each, once it has recovered. An image is refused as there, first; then its broker as
 /// [`Broker::renewed`] says.
 pub fn renewed(alloc: Global, clients: u32, records: u32, image: &[u8]) -> Result<Broker, Refusal>
-    ensures renewed { IfOk result
-        (IsRenewedBy (has_first_form image.now) image.now (record { clients = clients; records = records })) }
+    ensures renewed { IfOk result (IsRenewedBy (has_first_form image.now) image.now (counts_of clients records)) }
     ensures unrenewed { IfErr result
-        (IsWhyNotRenewed (has_first_form image.now) image.now (record { clients = clients; records = records })) }
+        (IsWhyNotRenewed (has_first_form image.now) image.now (counts_of clients records)) }
     ensures uncalled { IfOk result IsUncalled }
     ensures promises { IfOk result KeepsPromises }
 {

@@ -1,4 +1,5 @@
 //! Serving one reader and one writer.
+// A clause that names the reader and the writer before and after may be longer than 120 columns.
 
 ghost use Rattle.std.specs.Prelude.{◌≡◌, ◌<◌, ◌↔◌, ◌⊎◌, IfErr, IfOk, IsErrOf, OnOk};
 ghost use Rattle.devices.specs.Devices.{IsFlushed};

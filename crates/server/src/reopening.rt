@@ -3,6 +3,7 @@
 ghost use Rattle.std.specs.Prelude.{◌≡◌, ◌⊎◌, IfErr, IfOk};
 ghost use Rattle.persist.specs.Memory.{words_at_rest};
 ghost use Rattle.named.specs.Booting.{MayRefuse};
+ghost use Rattle.named.specs.Brokers.{counts_of};
 ghost use Rattle.named.specs.Promises.{KeepsPromises};
 ghost use Rattle.session.specs.Sessions.{IsUncalled};
 ghost use Rattle.server.specs.Opening.{HasBegunOn, IsOpened, IsReopenedAnew, IsWhyNotReopened, IsWhyNotReopenedAnew};
@@ -42,10 +43,8 @@ pub fn reopened_anew(
     records: u32,
     words: Vec<u64>,
 ) -> Result<Broker, Refusal>
-    ensures renewed { IfOk result
-        (IsReopenedAnew words.items (record { clients = clients; records = records })) }
-    ensures errors { IfErr result
-        (IsWhyNotReopenedAnew words.items (record { clients = clients; records = records })) }
+    ensures renewed { IfOk result (IsReopenedAnew words.items (counts_of clients records)) }
+    ensures errors { IfErr result (IsWhyNotReopenedAnew words.items (counts_of clients records)) }
     ensures uncalled { IfOk result IsUncalled }
     ensures promises { IfOk result KeepsPromises }
 {

@@ -1,5 +1,6 @@
 -- What becomes of the verdicts that a session keeps.
 use Rattle.std.specs.Prelude.{◌≡◌, ◌≢◌, ◌<◌, ◌≤◌, ◌⊎◌, ℕ, Bool, true, false, List, Option, Some, None, Result, Ok, Err}
+use Rattle.std.specs.Prelude.{slice_index_or}
 use Rattle.words.specs.declared.call.Client.{Client}
 use Rattle.words.specs.declared.call.Reply.{Reply}
 use Rattle.words.specs.declared.refusal.Refusal.{Refusal}
@@ -36,6 +37,11 @@ abbrev pub told_when_asked : Brokered → ℕ → ℕ → Option Verdict
 told_when_asked b slot client =
     verdict_heard
     (answer_at (λ w. Ok (told_to (told_in w.queue) (record { 0 = client }))) b slot (record { 0 = client }))
+
+-- a row has what each client is told in the queue of a slot
+abbrev pub IsRowHeard : Brokered → ℕ → List (Option Verdict) → Type 0
+IsRowHeard b slot row =
+    (client : ℕ) → client < MAX_CLIENTS → slice_index_or row client None ≡ told_when_asked b slot client
 
 -- what a broker tells is kept in each place
 pub record AreKeptAsHeard (b : Brokered) (kept : List (List (Option Verdict))) : Type 0 where

@@ -132,6 +132,16 @@ IsServedBy old new slot client number call result (Ok (Some reply)) = (result �
 IsServedBy old new slot client number call result (Ok None) =
     IsRun old.broker new.broker slot client number call result
 
+-- what a numbered request makes that runs to its end
+abbrev pub IsRequestServed : Sessioned → Sessioned → ℕ → Client → ℕ → Call → Result Reply Refusal → Type 0
+IsRequestServed old new slot client number call result =
+    IsServedBy old new slot client number call result (request_answer old slot client number)
+
+-- and one without a number
+abbrev pub IsPlainServed : Sessioned → Sessioned → ℕ → Client → Call → Result Reply Refusal → Type 0
+IsPlainServed old new slot client call result =
+    IsServedBy old new slot client 0 call result (plain_answer old slot client)
+
 -- the number of the call that a client of a log queue has under way; a durable queue's call has none
 abbrev pub numbered : Kind → Option ℕ → Option ℕ
 numbered log_kind number = number

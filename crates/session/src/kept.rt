@@ -1,11 +1,11 @@
 //! What is kept of each client in each queue.
 
-ghost use Rattle.std.specs.Prelude.{◌≡◌, ◌≢◌, ◌<◌, ◌≤◌, ◌⊎◌, ℕ, Ok, Some, None, length, slice_index_or};
+ghost use Rattle.std.specs.Prelude.{◌≡◌, ◌≢◌, ◌<◌, ◌≤◌, ◌⊎◌, ℕ, Ok, Some, None, length};
 ghost use Rattle.interleave.specs.Queue.{told_in, told_to};
 ghost use Rattle.named.specs.Brokers.{answer_at};
 ghost use Rattle.named.specs.Promises.{KeepsPromises};
-ghost use Rattle.session.specs.Keeping.{told_when_asked, verdict_heard, AreKeptAsHeard, IsKeptNow};
-ghost use Rattle.session.specs.Requests.{last_after};
+ghost use Rattle.session.specs.Answering.{IsHeardNow};
+ghost use Rattle.session.specs.Keeping.{verdict_heard, AreKeptAsHeard, IsKeptNow, IsRowHeard};
 ghost use Rattle.session.specs.Sessions.{kept_in};
 
 use arena::{SLOTS, SlotId};
@@ -45,8 +45,7 @@ fn verdict_of(told: Result<Told, Refusal>) -> Option<Verdict>
 
 /// What each client is told in the queue of a slot.
 fn row_told(broker: &Broker, slot: SlotId) -> [Option<Verdict>; MAX_CLIENTS]
-    ensures told { (client : ℕ) → client < MAX_CLIENTS
-        → slice_index_or result client None ≡ told_when_asked broker.now slot.0 client }
+    ensures told { IsRowHeard broker.now slot.0 result }
     ensures len { length result ≡ MAX_CLIENTS }
     ensures promises { KeepsPromises broker.now }
 {
@@ -102,8 +101,7 @@ impl Kept {
     )
         requires slot { slot.0 < SLOTS }
         requires client { client.0 < MAX_CLIENTS }
-        ensures { IsKeptNow self.old self.new slot.0 client.0
-            (last_after number (Ok answer.now) (kept_in self.old slot.0 client.0)) }
+        ensures { IsHeardNow self.old self.new slot.0 client.0 number (Ok answer.now) }
     {
         let Some(number) = number else {
             return;

@@ -1,22 +1,24 @@
 //! What holds over any list of a session's acts.
+// A law's clause begins with all that it speaks of, so some of them are longer than 120 columns.
 
-ghost use Rattle.std.specs.Prelude.{◌≡◌, ℕ, Bool, false, Ok, Option, Result, Some, None};
+ghost use Rattle.std.specs.Prelude.{◌≡◌, ℕ, Bool, Ok, Option, Result, Some, None};
 ghost use Rattle.words.specs.declared.refusal.Refusal.{Refusal};
 ghost use Rattle.persist.specs.Memory.{Words};
 ghost use Rattle.arena.specs.Shape.{Counts};
 ghost use Rattle.named.specs.Booting.{IsBooted};
 ghost use Rattle.arena.specs.declared.broker.SlotId.{SlotId};
 ghost use Rattle.directory.specs.declared.creation.Creation.{Creation};
-ghost use Rattle.named.specs.Brokers.{Brokered, IsNew, IsOpened, IsWell, quiet, world_at};
+ghost use Rattle.named.specs.Brokers.{Brokered, IsNew, IsOpened, IsWell};
 ghost use Rattle.named.specs.Evicting.{AreWorldsEvicted};
 ghost use Rattle.named.specs.GoingOn.{AreOthersQuiet};
-ghost use Rattle.named.specs.Rotating.{rotate_result, IsRotated};
-ghost use Rattle.named.specs.Stopping.{IsRecoveryStep, IsStopped};
+ghost use Rattle.named.specs.Rotating.{IsRotated};
+ghost use Rattle.named.specs.Stopping.{IsStopped};
 ghost use Rattle.words.specs.declared.call.Reply.{Reply};
 ghost use Rattle.words.specs.declared.told.Verdict.{Verdict};
 ghost use Rattle.interleave.specs.Holds.{Holds};
 ghost use Rattle.interleave.specs.State.{State};
 ghost use Rattle.words.specs.declared.call.Kind.{Kind};
+ghost use Rattle.session.specs.Acts.{AreWorldsAlike, IsNextRecoveryStep, MayRotate};
 ghost use Rattle.session.specs.Keeping.{IsSettled, SessionGoesOn};
 ghost use Rattle.session.specs.Numbers.{by_number};
 ghost use Rattle.session.specs.Promises.{HaveOneReply, KeepsNumbers};
@@ -61,15 +63,13 @@ pub fn uncalled_brokers()
     ensures booted { (ws : Words) (b : Brokered) → IsWell b → IsBooted ws b → IsUncalled b }
     ensures stopped { (old new : Brokered) → IsStopped old new → IsUncalled new }
     ensures recovered { (old new : Brokered) (result : Result Bool Refusal) → IsWell old → IsUncalled old
-        → IsRecoveryStep old new result old.recovery → IsUncalled new }
-    ensures rotated { (old new : Brokered) → IsWell old → rotate_result false old ≡ Ok tt → IsRotated old new
-        → IsUncalled new }
+        → IsNextRecoveryStep old new result → IsUncalled new }
+    ensures rotated { (old new : Brokered) → IsWell old → MayRotate old → IsRotated old new → IsUncalled new }
     ensures created { (old new : Brokered) (creation : Creation) (slot : SlotId) → IsWell new → IsUncalled old
         → IsOpened old new creation slot → AreOthersQuiet old new slot.0 → IsUncalled new }
     ensures evicted { (old new : Brokered) (word : ℕ) → IsWell old → IsUncalled old
         → AreWorldsEvicted old new word → IsUncalled new }
     ensures durable { (old new : Brokered) (slot : ℕ) → IsWell new → IsUncalled old → HasDurableQueue new slot
         → AreOthersQuiet old new slot → IsUncalled new }
-    ensures alike { (old new : Brokered) → IsUncalled old
-        → ((slot : ℕ) → quiet (world_at new slot) ≡ quiet (world_at old slot)) → IsUncalled new }
+    ensures alike { (old new : Brokered) → IsUncalled old → AreWorldsAlike old new → IsUncalled new }
 {}

@@ -8,7 +8,7 @@ ghost use Rattle.named.specs.GoingOn.{BrokerGoesOn};
 ghost use Rattle.named.specs.Renewing.{HasRoomInEach, IsRenewedAt, IsWhyNotRenewedAt, MayRenew};
 ghost use Rattle.named.specs.Rotating.{rotate_result, IsRotated};
 ghost use Rattle.named.specs.Slots.{IsWhyUnread};
-ghost use Rattle.notes.specs.Noting.{HasNoted};
+ghost use Rattle.session.specs.Acts.{HasNotedAct, IsSameButCreation};
 ghost use Rattle.session.specs.Keeping.{SessionGoesOn};
 ghost use Rattle.session.specs.Promises.{KeepsNumbers};
 
@@ -24,8 +24,7 @@ impl Session {
         ensures may { OnOk result (MayCreate self.old.broker name.now) }
         ensures begun { OnOk result (IfSome self.new.broker.creation (IsBegun self.old.broker name.now kind)) }
         ensures under_way { OnOk result (IsSome self.new.broker.creation) }
-        ensures others { self.new
-            ≡ record self.old { broker = record self.old.broker { creation = self.new.broker.creation } } }
+        ensures others { IsSameButCreation self.old self.new }
         ensures errors { IfErr result (IsNotCreated self.old.broker name.now) }
         ensures same { OnErr result (self.new ≡ self.old) }
         ensures goes_on { SessionGoesOn self.old self.new }
@@ -128,8 +127,7 @@ impl Session {
         ensures may { OnOk result (MayRenew self.old.broker queue.0) }
         ensures renewed { OnOk result (IsRenewedAt self.old.broker self.new.broker queue.0) }
         ensures room { OnOk result (HasRoomInEach self.new.broker 1) }
-        ensures noted { OnOk result (HasNoted notes.old.changes notes.new.changes self.old.broker.words.kept
-            self.new.broker.words.kept) }
+        ensures noted { OnOk result (HasNotedAct self.old self.new notes.old.changes notes.new.changes) }
         ensures promised { OnOk result (notes.new.promised ≡ more) }
         ensures errors { IfErr result (IsWhyNotRenewedAt self.old.broker queue.0) }
         ensures same { OnErr result (self.new ≡ self.old) }

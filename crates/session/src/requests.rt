@@ -4,14 +4,14 @@ ghost use Rattle.std.specs.Prelude.{◌≡◌, ◌<◌, Ok, Err, Some, None, IfO
 ghost use Rattle.words.specs.declared.limits.TheConstants.{MAX_CALL_NUMBER};
 ghost use Rattle.persist.specs.Noted.{answer_in, change_in, IsNoted};
 ghost use Rattle.interleave.specs.Rules.{starting};
-ghost use Rattle.interleave.specs.Verdicts.{taken_as};
 ghost use Rattle.named.specs.Acting.{IsActAt, IsSameBeside};
 ghost use Rattle.named.specs.Brokers.{answer_at};
 ghost use Rattle.named.specs.GoingOn.{BrokerGoesOn};
-ghost use Rattle.session.specs.Keeping.{IsKeptNow, SessionGoesOn};
+ghost use Rattle.session.specs.Keeping.{SessionGoesOn};
 ghost use Rattle.session.specs.Promises.{IsReplyAt, IsReplyIfNumbered, KeepsNumbers};
-ghost use Rattle.session.specs.Answering.{IsAnswerKept, IsReplyOfCall};
-ghost use Rattle.session.specs.Requests.{answer_to, call_number, number_or_zero, plain_answer, request_admission, request_answer, IsAdvanced, IsRequestBegun, IsServedBy};
+ghost use Rattle.session.specs.Answering.{IsAnswerKept, IsReplyKept, IsReplyOfCall};
+ghost use Rattle.session.specs.Requests.{answer_to, call_number, number_or_zero, request_admission, IsAdvanced};
+ghost use Rattle.session.specs.Requests.{IsPlainServed, IsRequestBegun, IsRequestServed};
 
 use crate::numbers::answer;
 use crate::running::run;
@@ -71,12 +71,10 @@ impl Session {
         number: u64,
         call: Call,
     ) -> Result<Reply, Refusal>
-        ensures request { IsServedBy self.old self.new queue.0 client number call result
-            (request_answer self.old queue.0 client number) }
+        ensures request { IsRequestServed self.old self.new queue.0 client number call result }
         ensures stale { result ≡ Err Refusal.StaleNumber → MAX_CALL_NUMBER < number }
         ensures reply { IfOk result (IsReplyAt self.new queue.0 client number) }
-        ensures kept { IfOk result (λ reply.
-            IsKeptNow self.old.kept self.new.kept queue.0 client.0 (Some (taken_as number reply))) }
+        ensures kept { IfOk result (IsReplyKept self.old self.new queue.0 client number) }
         ensures same { OnErr result (self.new.kept ≡ self.old.kept) }
         ensures goes_on { SessionGoesOn self.old self.new }
         ensures queues { BrokerGoesOn self.old.broker self.new.broker }
@@ -96,8 +94,7 @@ impl Session {
     /// A call without a number, in a durable queue, which runs to its end: its reply. It is refused as
     /// [`Session::request`] is, but on a log queue (WrongKind), and for no number.
     pub fn plain(&mut self, client: Client, queue: SlotId, call: Call) -> Result<Reply, Refusal>
-        ensures request { IsServedBy self.old self.new queue.0 client 0 call result
-            (plain_answer self.old queue.0 client) }
+        ensures request { IsPlainServed self.old self.new queue.0 client call result }
         ensures same { self.new.kept ≡ self.old.kept }
         ensures goes_on { SessionGoesOn self.old self.new }
         ensures queues { BrokerGoesOn self.old.broker self.new.broker }

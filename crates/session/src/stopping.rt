@@ -10,8 +10,9 @@ ghost use Rattle.named.specs.Brokers.{room_at};
 ghost use Rattle.named.specs.Evicting.{evict_result, AreWorldsEvicted};
 ghost use Rattle.named.specs.GoingOn.{BrokerGoesOn, IsDowntime};
 ghost use Rattle.named.specs.Lasting.{most_kept, steps_left};
-ghost use Rattle.named.specs.Stopping.{HasFullQueue, IsRecoveryStep, IsSameButRoom, IsStopped};
+ghost use Rattle.named.specs.Stopping.{HasFullQueue, IsSameButRoom, IsStopped};
 ghost use Rattle.named.specs.Telling.{TellAtReady};
+ghost use Rattle.session.specs.Acts.{IsNextRecoveryStep, IsSameButWordsAndSlots};
 ghost use Rattle.session.specs.Keeping.{AreKeptAfter, SessionGoesOn};
 ghost use Rattle.session.specs.Promises.{KeepsNumbers};
 
@@ -27,8 +28,7 @@ impl Session {
         ensures result { result ≡ evict_result self.old.broker word }
         ensures words { IsSameWords (words_after_eviction word self.old.broker.words) self.new.broker.words }
         ensures worlds { AreWorldsEvicted self.old.broker self.new.broker word }
-        ensures same { self.new.broker
-            ≡ record self.old.broker { words = self.new.broker.words; slots = self.new.broker.slots } }
+        ensures same { IsSameButWordsAndSlots self.old.broker self.new.broker }
         ensures room { (slot : ℕ) → room_at self.new.broker slot ≡ room_at self.old.broker slot }
         ensures left { steps_left self.new.broker ≡ steps_left self.old.broker }
         ensures kept { self.new.kept ≡ self.old.kept }
@@ -61,7 +61,7 @@ impl Session {
     /// One step of recovery, as [`named::Broker::recover_step`] takes it. Once the broker is ready, what each client is
     /// told is kept.
     pub fn recover_step(&mut self) -> Result<bool, Refusal>
-        ensures step { IsRecoveryStep self.old.broker self.new.broker result self.old.broker.recovery }
+        ensures step { IsNextRecoveryStep self.old.broker self.new.broker result }
         ensures full { is_no_memory result ≡ true → HasFullQueue self.old.broker }
         ensures room { (slot : ℕ) → room_at self.old.broker slot ≤ room_at self.new.broker slot + 1 }
         ensures spare { OnErr result ((slot : ℕ) → room_at self.old.broker slot ≤ room_at self.new.broker slot) }
@@ -78,7 +78,7 @@ impl Session {
 
     /// As [`Session::recover_step`], with the change of a kept word that the step made.
     pub fn recover_step_noted(&mut self) -> Result<Noted<bool>, Refusal>
-        ensures step { IsRecoveryStep self.old.broker self.new.broker (answer_in result) self.old.broker.recovery }
+        ensures step { IsNextRecoveryStep self.old.broker self.new.broker (answer_in result) }
         ensures full { is_no_memory (answer_in result) ≡ true → HasFullQueue self.old.broker }
         ensures room { (slot : ℕ) → room_at self.old.broker slot ≤ room_at self.new.broker slot + 1 }
         ensures spare { OnErr result ((slot : ℕ) → room_at self.old.broker slot ≤ room_at self.new.broker slot) }

@@ -10,9 +10,10 @@ use Rattle.events.specs.declared.event.Event.TheVariants.{Call as call_event, Re
 use Rattle.events.specs.declared.event.Event.TheVariants.{Crash as crash_event, Ready as ready_event}
 use Rattle.interleave.specs.State.{State, order_in}
 use Rattle.named.specs.Brokers.{world_at}
+use Rattle.session.specs.Promises.{KeepsNumbers}
 use Rattle.session.specs.Requests.{number_or_zero}
 use Rattle.session.specs.Sessions.{Sessioned}
-use Rattle.workers.specs.Lists.{HasEntryAt, HasReturned, IsCutOff, events_at}
+use Rattle.workers.specs.Lists.{HasEntryAt, HasReturned, IsCutOff, IsRecorded, events_at}
 use Rattle.workers.specs.declared.entry.End.{End}
 use Rattle.workers.specs.declared.entry.End.TheVariants.{Answered, Interrupted}
 use Rattle.workers.specs.declared.entry.Entry.{Entry}
@@ -72,3 +73,9 @@ abbrev pub AreInterruptedTold : Sessioned → Client → List Entry → Type 0
 AreInterruptedTold s client list =
     (w : State) (place : ℕ) (call : HasEndedCall s list w place Interrupted) → w.shape.kind ≡ log_kind
     → IsToldOfCall w client place (number_or_zero call.has.entry.number)
+
+-- so it is of each session that keeps its promises, with a client and the list that fits its histories
+abbrev pub IsSoOfRecorded : (Sessioned → Client → List Entry → Type 0) → Type 0
+IsSoOfRecorded IsSo =
+    (since : ℕ → ℕ) (s : Sessioned) (client : Client) (list : List Entry) → KeepsNumbers s
+    → IsRecorded since s client list → IsSo s client list

@@ -1,8 +1,11 @@
 -- What a call leaves in its seat's list.
 use Rattle.std.specs.Prelude.{◌≡◌, ◌++◌, IsSome, ℕ, List, [], ◌∷◌, Option, Some, None, Result, Ok, Err}
+use Rattle.words.specs.declared.call.Client.{Client}
 use Rattle.words.specs.declared.call.Reply.{Reply}
 use Rattle.words.specs.declared.refusal.Refusal.{Refusal}
 use Rattle.arena.specs.declared.broker.SlotId.{SlotId}
+use Rattle.session.specs.Requests.{IsRequestBegun}
+use Rattle.session.specs.Sessions.{Sessioned}
 use Rattle.workers.specs.Lists.{with_end}
 use Rattle.workers.specs.declared.entry.Answer.{Answer}
 use Rattle.workers.specs.declared.entry.Answer.TheVariants.{Refused, Reply as answer_reply, Interrupted as answer_interrupted, Unfinished}
@@ -12,6 +15,10 @@ use Rattle.workers.specs.declared.entry.Entry.{Entry}
 use Rattle.workers.specs.declared.entry.Request.{Request}
 use Rattle.workers.specs.declared.entry.Took.{Took}
 use Rattle.workers.specs.declared.entry.Took.TheVariants.{More, NoMemory as took_no_memory, Answered as took_answered, Interrupted as took_interrupted}
+
+-- the session began the client's request in the queue of a slot, or had its reply, or refused it
+abbrev pub IsBegunAs : Sessioned → Sessioned → ℕ → Client → Request → Result (Option Reply) Refusal → Type 0
+IsBegunAs old new slot client r result = IsRequestBegun old new slot client r.number r.call result
 
 -- the entry of a call that was asked for
 abbrev pub entry_of : SlotId → Request → Option ℕ → End → Entry

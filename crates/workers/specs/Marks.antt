@@ -54,3 +54,9 @@ abbrev pub AreAnswersTold : Sessioned → Client → List Entry → Type 0
 AreAnswersTold s client list =
     (number : ℕ) (reply : Reply) (has : HasNumberAnswered s client list number reply)
     → IsSettled (verdict_heard (Ok (kept_told has.ran.world client))) number reply
+
+-- so it is of each session that was marked, with a client and the list that its seat had then
+abbrev pub IsSoOfMarked : (Sessioned → Client → List Entry → Type 0) → Type 0
+IsSoOfMarked IsSo =
+    (first session : Sessioned) (client : Client) (list : List Entry)
+    → IsMarkedBy first client list session → IsSo session client list

@@ -1,6 +1,9 @@
 -- Moments of a shared session, by their kept words; and that of two moments the later goes on from the earlier.
-use Rattle.std.specs.Prelude.{◌≡◌, ◌<◌, ℕ, Bool, List, [], ◌∷◌, length, map, All}
+use Rattle.std.specs.Prelude.{◌≡◌, ◌<◌, ℕ, Bool, List, [], ◌∷◌, length, map, All, IfOk, OnSome, Option, Result}
+use Rattle.words.specs.declared.refusal.Refusal.{Refusal}
+use Rattle.persist.specs.Noted.{applied}
 use Rattle.persist.specs.declared.access.Change.{Change}
+use Rattle.notes.specs.Noting.{IsMadeBy}
 use Rattle.witness.specs.Accounts.{Known}
 use Rattle.named.specs.Booting.{AreBootWords}
 use Rattle.session.specs.Keeping.{SessionGoesOn}
@@ -36,6 +39,22 @@ pub record HandedOn : Type 0 where
   pub changes : List Change
   pub last : Sessioned
   pub assured : List Sessioned
+
+-- where a batch of changes was handed on this is so
+abbrev pub OnBatch : {A : Type 0} → Result (Option A) Refusal → Type 0 → Type 0
+OnBatch result IsSo = IfOk result (λ batch. OnSome batch IsSo)
+
+-- the changes that were handed on make of the first kept words those of a moment: of the session at the last time
+abbrev pub IsHandedMoment : Sessioned → HandedOn → Type 0
+IsHandedMoment first handed = IsMomentOf first handed.last (applied handed.changes first.broker.words.kept)
+
+-- they make of them the kept words of this session
+abbrev pub IsMadeByHanded : Sessioned → HandedOn → Sessioned → Type 0
+IsMadeByHanded first handed now = IsMadeBy handed.changes first.broker.words.kept now.broker.words.kept
+
+-- each of them is of one of those words
+abbrev pub AreHandedWithin : Sessioned → HandedOn → Type 0
+AreHandedWithin first handed = All (λ change. change.word < length first.broker.words.kept) handed.changes
 
 -- the last one of these sessions
 abbrev pub latest : List Sessioned → Sessioned

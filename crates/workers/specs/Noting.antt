@@ -27,6 +27,10 @@ first_row (row ∷ more) = row
 abbrev pub handed_in : Book → List Change
 handed_in book = first_row (rows_of book.keeper)
 
+-- the book's keeper knows that just these changes of its roll were handed on
+abbrev pub HasHandedOn : TableId → List Change → Book → Type 0
+HasHandedOn roll changes book = IsKeeper roll (changes ∷ []) book.keeper
+
 -- The changes that were handed on and those that were noted since make the kept words of those that there were when the
 -- seats were given. There is room for those of the creation
 pub record IsBookRight (roll : TableId) (first : List ℕ) (now : Brokered) (creating : Creating) (book : Book)

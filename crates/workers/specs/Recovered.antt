@@ -1,13 +1,17 @@
 -- What the caller of a recovery is told.
-use Rattle.std.specs.Prelude.{◌≡◌, ◌⊎◌, ℕ, Bool, true, false, Option, Some, None, Result, Ok, Err}
+use Rattle.std.specs.Prelude.{◌≡◌, ◌⊎◌, ℕ, Bool, true, false, Option, Some, None, Result, Ok, Err, IfErr}
 use Rattle.words.specs.declared.refusal.Refusal.{Refusal}
 use Rattle.words.specs.declared.refusal.Refusal.TheVariants.{AlreadyReady, NoMemory}
 use Rattle.named.specs.Brokers.{Brokered}
-use Rattle.named.specs.Stopping.{IsRecoveryStep}
+use Rattle.session.specs.Acts.{IsNextRecoveryStep}
 
 -- why a step of it is refused: none is under way, or there is no memory
 abbrev pub IsRecoveryRefusal : Refusal → Type 0
 IsRecoveryRefusal refusal = (refusal ≡ AlreadyReady) ⊎ (refusal ≡ NoMemory)
+
+-- a step of it is refused only where none is under way
+abbrev pub IsRefusedOnlyIfReady : Result Bool Refusal → Type 0
+IsRefusedOnlyIfReady result = IfErr result (λ refusal. refusal ≡ AlreadyReady)
 
 -- whether the broker is ready once a step of it answered this
 abbrev pub is_ready_after : Result Bool Refusal → Bool
@@ -31,6 +35,6 @@ told_of_recovery begun (Err refusal) = Some (Err refusal)
 
 -- what a step of it made: where changes are noted, nothing, if there is no memory for its change
 abbrev pub IsStepIfRoom : Option ℕ → Brokered → Brokered → Result Bool Refusal → Type 0
-IsStepIfRoom None old new result = IsRecoveryStep old new result old.recovery
+IsStepIfRoom None old new result = IsNextRecoveryStep old new result
 IsStepIfRoom (Some promised) old new result =
-    ((result ≡ Err NoMemory) × (new ≡ old)) ⊎ IsRecoveryStep old new result old.recovery
+    ((result ≡ Err NoMemory) × (new ≡ old)) ⊎ IsNextRecoveryStep old new result

@@ -1,13 +1,13 @@
 //! The changes of kept words, where they are noted.
 
-ghost use Rattle.std.specs.Prelude.{◌≡◌, ◌+◌, ◌++◌, ◌∷◌, [], ℕ, List, false, true, IfErr, IfOk, None, OnErr, OnOk};
+ghost use Rattle.std.specs.Prelude.{◌≡◌, ◌+◌, ◌++◌, [], ℕ, List, false, true, IfErr, IfOk, None, OnErr, OnOk};
 ghost use Rattle.persist.specs.Noted.{answer_in, change_in, IsNoted};
-ghost use Rattle.roll.specs.Rule.{IsHolder, IsKeeper, row_of};
+ghost use Rattle.roll.specs.Rule.{IsHolder, row_of};
 ghost use Rattle.named.specs.Lasting.{steps_left};
 ghost use Rattle.named.specs.Renewing.{HasRoomInEach, IsRenewedAt, IsWhyNotRenewedAt, MayRenew};
 ghost use Rattle.session.specs.Keeping.{SessionGoesOn};
 ghost use Rattle.session.specs.Promises.{KeepsNumbers};
-ghost use Rattle.workers.specs.Noting.{handed_in, HasPromised, IsBookOn, promised_in, with_promised};
+ghost use Rattle.workers.specs.Noting.{handed_in, HasHandedOn, HasPromised, IsBookOn, promised_in, with_promised};
 
 use arena::SlotId;
 use notes::Notes;
@@ -34,13 +34,13 @@ impl Book {
         fresh: Vec<Change>,
     ) -> (Token<Change>, Result<Vec<Change>, AllocError>)
         requires fresh { fresh.items ≡ [] }
-        requires keeper { IsKeeper self.old.roll (handed_in self.old ∷ []) self.old.keeper }
+        requires keeper { HasHandedOn self.old.roll (handed_in self.old) self.old }
         requires holder { IsHolder self.old.roll 0 (row_of holder) holder }
         ensures batch { IfOk result.1 (λ batch. batch.items ≡ self.old.notes.changes) }
         ensures before { OnOk result.1 (row_of holder ≡ handed_in self.old) }
         ensures roll { OnOk result.1 (self.new.roll ≡ self.old.roll) }
         ensures keeper { IfOk result.1
-            (λ batch. IsKeeper self.old.roll ((handed_in self.old ++ batch.items) ∷ []) self.new.keeper) }
+            (λ batch. HasHandedOn self.old.roll (handed_in self.old ++ batch.items) self.new) }
         ensures notes { OnOk result.1 (self.new.notes ≡ record self.old.notes { changes = [] }) }
         ensures holder { IfOk result.1
             (λ batch. IsHolder self.old.roll 0 (row_of holder ++ batch.items) result.0) }

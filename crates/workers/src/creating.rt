@@ -6,14 +6,15 @@ ghost use Rattle.directory.specs.Name.{IsName};
 ghost use Rattle.named.specs.Brokers.{world_at, MayCreate};
 ghost use Rattle.named.specs.GoingOn.{BrokerGoesOn};
 ghost use Rattle.named.specs.Lasting.{steps_left};
-ghost use Rattle.named.specs.Stopping.{IsRecoveryStep, IsStopped};
+ghost use Rattle.named.specs.Stopping.{IsStopped};
+ghost use Rattle.session.specs.Acts.{IsNextRecoveryStep};
 ghost use Rattle.workers.specs.Creating.{creating_after_crash};
 ghost use Rattle.workers.specs.Deeds.{IsReadyReceipted, IsReceipted};
 ghost use Rattle.workers.specs.Made.{IsMade};
 ghost use Rattle.workers.specs.Noting.{to_create, with_promised, HasPromised};
 ghost use Rattle.workers.specs.Refusals.{is_creation_refusal};
 ghost use Rattle.workers.specs.Renewing.{HasRoomToRecover};
-ghost use Rattle.workers.specs.Recovered.{is_ready_after, IsRecoveryRefusal, IsStepIfRoom};
+ghost use Rattle.workers.specs.Recovered.{is_ready_after, IsRecoveryRefusal, IsRefusedOnlyIfReady, IsStepIfRoom};
 ghost use Rattle.workers.specs.declared.deeds.Deed.{Deed as AnyDeed};
 ghost use Rattle.workers.specs.declared.locked.Creating.{Creating as AnyCreating};
 
@@ -175,15 +176,13 @@ impl<J: Naming> Locked<J> {
         requires deeds { deeds.now ≡ J.roll.deeds }
         requires promised { HasPromised
             (to_create self.old.creating self.old.session.broker.creation + 1) self.old.promised }
-        ensures step { IsRecoveryStep self.old.session.broker self.new.session.broker result.0
-            self.old.session.broker.recovery }
+        ensures step { IsNextRecoveryStep self.old.session.broker self.new.session.broker result.0 }
         ensures errors { IfErr result.0 IsRecoveryRefusal }
         ensures receipt { IsReadyReceipted (λ receipt. receipt.deed) (is_ready_after result.0) result.1 }
         ensures goes_on { BrokerGoesOn self.old.session.broker self.new.session.broker }
         ensures ready { is_ready_after result.0 ≡ true → self.new.session.broker.recovery ≡ None }
         ensures room { HasRoomToRecover self.old.session.broker → HasRoomToRecover self.new.session.broker }
-        ensures never_full { HasRoomToRecover self.old.session.broker
-            → IfErr result.0 (λ refusal. refusal ≡ Refusal.AlreadyReady) }
+        ensures never_full { HasRoomToRecover self.old.session.broker → IsRefusedOnlyIfReady result.0 }
         ensures falls { IfOk result.0
             (λ ready. steps_left self.new.session.broker < steps_left self.old.session.broker) }
         ensures less { self.old.promised ≡ with_promised 1 self.new.promised }

@@ -1,11 +1,10 @@
 //! How changes of kept words are handed on from under the lock, and the session marked.
 
-ghost use Rattle.std.specs.Prelude.{◌≡◌, ◌<◌, ◌++◌, ◌∷◌, [], length, true, All, Contains, IfErr, IfNone, IfOk, IfSome, OnErr, OnOk, OnSome};
-ghost use Rattle.persist.specs.Noted.{applied};
-ghost use Rattle.notes.specs.Noting.{IsMadeBy};
+ghost use Rattle.std.specs.Prelude.{◌≡◌, ◌++◌, ◌∷◌, [], true, Contains, IfErr, IfNone, IfOk, IfSome, OnErr, OnOk};
 ghost use Rattle.roll.specs.Rule.{IsHolder, row_of};
 ghost use Rattle.workers.specs.Marks.{IsMarkedBy};
-ghost use Rattle.workers.specs.Moments.{GoesOnLater, IsMomentOf};
+ghost use Rattle.workers.specs.Moments.{AreHandedWithin, GoesOnLater, IsHandedMoment, IsMadeByHanded, IsMomentOf};
+ghost use Rattle.workers.specs.Moments.{OnBatch};
 ghost use Rattle.workers.specs.Noting.{OfRoll};
 
 use crate::entry::Entry;
@@ -104,11 +103,9 @@ impl<J: Naming> Locked<J> {
     ) -> (Handed<J>, Result<Vec<Change>, Refusal>)
         requires { fresh.items ≡ [] }
         ensures row { IfOk result.1 (λ batch. result.0.changes ≡ handed.changes ++ batch.items) }
-        ensures made { OnOk result.1
-            (IsMadeBy result.0.changes J.first.broker.words.kept self.new.session.broker.words.kept) }
+        ensures made { OnOk result.1 (IsMadeByHanded J.first result.0 self.new.session) }
         ensures last { OnOk result.1 (result.0.last ≡ self.new.session) }
-        ensures moment { OnOk result.1
-            (IsMomentOf J.first result.0.last (applied result.0.changes J.first.broker.words.kept)) }
+        ensures moment { OnOk result.1 (IsHandedMoment J.first result.0) }
         ensures later { OnOk result.1 (GoesOnLater handed.last result.0.last) }
         ensures assured { result.0.assured ≡ handed.assured }
         ensures session { self.new.session ≡ self.old.session }
@@ -159,10 +156,8 @@ impl<J: Naming> Locked<J> {
     ) -> (Handed<J>, Marked<J>, Result<Option<Vec<Change>>, Refusal>)
         requires { fresh.items ≡ [] }
         ensures row { IfOk result.2 (λ some. IfSome some (λ batch. result.0.changes ≡ handed.changes ++ batch.items)) }
-        ensures made { IfOk result.2 (λ some. OnSome some
-            (IsMadeBy result.0.changes J.first.broker.words.kept self.new.session.broker.words.kept)) }
-        ensures moment { IfOk result.2 (λ some. OnSome some
-            (IsMomentOf J.first result.0.last (applied result.0.changes J.first.broker.words.kept))) }
+        ensures made { OnBatch result.2 (IsMadeByHanded J.first result.0 self.new.session) }
+        ensures moment { OnBatch result.2 (IsHandedMoment J.first result.0) }
         ensures none { IfOk result.2 (λ some. IfNone some (result.0 ≡ handed)) }
         ensures later { OnOk result.2 (GoesOnLater handed.last result.0.last) }
         ensures marked { OnOk result.2 (GoesOnLater marked result.0.last) }
@@ -248,10 +243,8 @@ impl<J: Naming> Shared<J> {
         marked: Marked<J>,
     ) -> (Handed<J>, Marked<J>, Result<Option<Vec<Change>>, Refusal>)
         ensures row { IfOk result.2 (λ some. IfSome some (λ batch. result.0.changes ≡ handed.changes ++ batch.items)) }
-        ensures within { IfOk result.2 (λ some. OnSome some
-            (All (λ change. change.word < length J.first.broker.words.kept) result.0.changes)) }
-        ensures moment { IfOk result.2 (λ some. OnSome some
-            (IsMomentOf J.first result.0.last (applied result.0.changes J.first.broker.words.kept))) }
+        ensures within { OnBatch result.2 (AreHandedWithin J.first result.0) }
+        ensures moment { OnBatch result.2 (IsHandedMoment J.first result.0) }
         ensures none { IfOk result.2 (λ some. IfNone some (result.0 ≡ handed)) }
         ensures later { OnOk result.2 (GoesOnLater handed.last result.0.last) }
         ensures marked { OnOk result.2 (GoesOnLater marked result.0.last) }

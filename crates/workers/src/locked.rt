@@ -3,8 +3,7 @@
 ghost use Rattle.std.specs.Prelude.{◌≡◌, ◌≢◌, ◌<◌, ◌∷◌, [], false, length, true, IfErr, vec_capacity, vec_len};
 ghost use Rattle.directory.specs.Directory.{IsNamed};
 ghost use Rattle.roll.specs.Rule.{IsKeeper, rows_of};
-ghost use Rattle.session.specs.Requests.{IsRequestBegun};
-ghost use Rattle.workers.specs.Answers.{IsListAfter, IsListBegun};
+ghost use Rattle.workers.specs.Answers.{IsBegunAs, IsListAfter, IsListBegun};
 ghost use Rattle.workers.specs.Following.{guarded_in, IsBeginning, IsGuardedWell};
 ghost use Rattle.workers.specs.Lists.{ends_open, events_at};
 ghost use Rattle.workers.specs.Noting.{IsBooked};
@@ -156,8 +155,7 @@ impl<J: Naming> Locked<J> {
         requires named { IsNamed self.old.session.broker.directory queue.0 request.now.name }
         ensures client { result.0.client ≡ seat.client }
         ensures begun { IsListBegun seat.list.items request.now result.1 result.0.list.items }
-        ensures act { IsRequestBegun self.old.session self.new.session queue.0 seat.client request.now.number
-            request.now.call result.1 }
+        ensures act { IsBegunAs self.old.session self.new.session queue.0 seat.client request.now result.1 }
         ensures errors { IfErr result.1 (IsWhyRefused J.first seat.list.items request.now) }
         ensures settled { (reply : Reply) → WasSettled J.first seat.client request.now reply
             → IsSettledStart reply result.1 }

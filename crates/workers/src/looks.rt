@@ -4,11 +4,8 @@ ghost use Rattle.std.specs.Prelude.{◌≡◌, ◌<◌, ℕ, length, IfErr, IfOk
 ghost use Rattle.arena.specs.declared.broker.TheConstants.{SLOTS};
 ghost use Rattle.workers.specs.Deeds.{IsTellingReceipted, IsTold};
 ghost use Rattle.workers.specs.Looking.{IsFoundOf, IsListedOf};
-ghost use Rattle.interleave.specs.State.{kept_content};
-ghost use Rattle.named.specs.Brokers.{world_at};
-ghost use Rattle.named.specs.Slots.{IfWorld};
 ghost use Rattle.workers.specs.Refusals.{IsWhyNotTold, IsWhyNoUsage};
-ghost use Rattle.workers.specs.Usage.{IsUsageOf};
+ghost use Rattle.workers.specs.Usage.{HasItemsOf, IsUsageOf};
 
 use crate::deeds::{Deed, Receipt};
 use crate::locked::Locked;
@@ -93,8 +90,7 @@ impl<J: Naming> Locked<J> {
 
     /// What the queue of a slot holds.
     pub(crate) fn usage(&self, slot: SlotId) -> Result<Usage, Refusal>
-        ensures items { IfOk result (λ usage. IfWorld (world_at self.now.session.broker slot.0)
-            (λ w. usage.items ≡ length (kept_content w))) }
+        ensures items { IfOk result (HasItemsOf self.now.session slot.0) }
         ensures counts { IfOk result (IsUsageOf J.clients J.first) }
         ensures errors { IfErr result (IsWhyNoUsage J.first slot) }
     {
