@@ -1,5 +1,5 @@
 -- What a crash of a whole broker after some acts comes to.
-use Rattle.std.specs.Prelude.{◌≡◌, ℕ, List, [], ◌∷◌, ◌++◌, None, map, take}
+use Rattle.std.specs.Prelude.{◌≡◌, ℕ, List, [], ◌∷◌, ◌++◌, None, length, map, take}
 use Rattle.arena.specs.Broker.{broker_size}
 use Rattle.arena.specs.Shape.{Counts}
 use Rattle.grammar.specs.declared.commands.Command.TheVariants.{Evict, Crash, Recover}
@@ -10,9 +10,11 @@ use Rattle.session.specs.Keeping.{SessionGoesOn}
 use Rattle.session.specs.Sessions.{Sessioned}
 use Rattle.explore.specs.Points.{evicted_words}
 use Rattle.explore.specs.declared.evictions.Evictions.{Evictions}
+use Rattle.broker_script.specs.Grammar.{counts_by}
 use Rattle.broker_script.specs.Play.{Played, new_played, session_of}
 use Rattle.broker_script.specs.Transcript.{FollowsLine}
 use Rattle.broker_script.specs.declared.printed.Printed.{Printed}
+use Rattle.broker_script.specs.declared.statements.BrokerLine.{BrokerLine}
 use Rattle.broker_script.specs.declared.statements.Statement.{Statement}
 use Rattle.broker_script.specs.declared.statements.Statement.TheVariants.{Whole as whole}
 use Rattle.broker_points.specs.Reports.{point_text}
@@ -35,9 +37,9 @@ evictions_at c evictions point = map eviction (evicted_words evictions (broker_s
 abbrev pub downtime : List Statement
 downtime = whole Crash ∷ whole Recover ∷ []
 
--- the line of a point. A session over a new broker made these acts, then the environment kept words, everything stopped,
--- and the broker recovered: each queue that it had is there and its history goes on, each history is explained by its
--- order, which leaves what the queue holds, and each number that was settled is so, with the same reply
+-- the line of a point. A session over a new broker made these acts, then the environment kept words, everything
+-- stopped, and the broker recovered: each queue that it had is there and its history goes on, each history is explained
+-- by its order, which leaves what the queue holds, and each number that was settled is so, with the same reply
 pub record IsPointAfter (c : Counts) (acts : List Statement) (evictions : Evictions) (point : ℕ) (text : List ℕ)
     : Type 0 where
   pub session : Sessioned
@@ -51,6 +53,11 @@ pub record IsPointAfter (c : Counts) (acts : List Statement) (evictions : Evicti
   pub explained : AreExplained found.broker
   pub settled : SessionGoesOn (session_of stopping) (session_of found)
   pub is : text ≡ point_text point found
+
+-- that of a crash after all of these acts, on a broker as its line says
+abbrev pub IsPointAfterAll : BrokerLine → List Statement → Evictions → List ℕ → Type 0
+IsPointAfterAll broker acts evictions text =
+    IsPointAfter (counts_by broker) acts evictions (length acts) text
 
 -- that of a crash after the first of these acts, so many of them
 abbrev pub IsPointAt : Counts → List Statement → Evictions → ℕ → List ℕ → Type 0

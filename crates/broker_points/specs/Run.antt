@@ -4,13 +4,15 @@ use Rattle.std.specs.Io.KnownBytes.{Appends}
 use Rattle.std.specs.List.{AllZip, concat, range_with_len}
 use Rattle.arena.specs.Shape.{Counts}
 use Rattle.devices.specs.Devices.{AppendsBeginning}
+use Rattle.devices.specs.declared.device.Reader.{Ghosts as Reader}
+use Rattle.devices.specs.declared.device.Writer.{Ghosts as Writer}
 use Rattle.grammar.specs.Lines.{lines_of}
 use Rattle.named.specs.Brokers.{IsNew}
 use Rattle.session.specs.Sessions.{Sessioned}
 use Rattle.explore.specs.declared.evictions.Evictions.{Evictions}
 use Rattle.broker_script.specs.Grammar.{counts_by}
 use Rattle.broker_script.specs.Play.{new_played}
-use Rattle.broker_script.specs.Script.{Says}
+use Rattle.broker_script.specs.Script.{SaysScript}
 use Rattle.broker_script.specs.Scripted.{Scripted}
 use Rattle.broker_script.specs.declared.statements.BrokerLine.{BrokerLine}
 use Rattle.broker_script.specs.declared.statements.Statement.{Statement}
@@ -44,7 +46,7 @@ IsReport (Some broker) statements evictions text = IsReportOf (counts_by broker)
 -- a text says a script, and this is a report on it
 pub record Reports (evictions : Evictions) (text printed : List ℕ) : Type 0 where
   pub script : Scripted
-  pub says : Says (lines_of text) script.broker script.statements
+  pub says : SaysScript (lines_of text) script
   pub report : IsReport script.broker script.statements evictions printed
 
 -- where the bytes to read are known, a report on them was written
@@ -58,3 +60,14 @@ abbrev pub PrintsReportBeginning : Evictions → Option (List ℕ) → Option (L
 PrintsReportBeginning evictions None old new = Unit {0}
 PrintsReportBeginning evictions (Some text) old new =
     (printed : List ℕ) × Reports evictions text printed × AppendsBeginning old new printed
+
+-- a reader as a run finds it, and a writer before and after the run
+module _ {R W : Type 0} (reader : Reader R) (writer : Writer W) where
+  -- a report on what the reader had left was printed, or only a beginning of one
+  abbrev pub PrintsPoints : Evictions → R → W → W → Type 0
+  PrintsPoints evictions from old new =
+      PrintsReport evictions (reader.left from) (writer.written old) (writer.written new)
+
+  abbrev pub BeginsPoints : Evictions → R → W → W → Type 0
+  BeginsPoints evictions from old new =
+      PrintsReportBeginning evictions (reader.left from) (writer.written old) (writer.written new)

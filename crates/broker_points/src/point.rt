@@ -1,13 +1,13 @@
 //! What a crash of a whole broker after some acts comes to.
 
-ghost use Rattle.std.specs.Prelude.{◌≡◌, ◌++◌, ◌∷◌, [], None, true, false, IsTrue, OnOk, IfOk, IfErr, length, map, replicate};
+ghost use Rattle.std.specs.Prelude.{◌≡◌, ◌++◌, ◌∷◌, [], None, true, false, IsTrue, OnOk, IfOk, IfErr, map, replicate};
 ghost use Rattle.named.specs.GoingOn.{BrokerGoesOn};
 ghost use Rattle.session.specs.Keeping.{SessionGoesOn};
-ghost use Rattle.broker_script.specs.Grammar.{counts_by, IsServedBroker};
+ghost use Rattle.broker_script.specs.Grammar.{IsServedBroker};
 ghost use Rattle.broker_script.specs.Play.{session_of};
 ghost use Rattle.broker_script.specs.Standing.{keeps_queues, QueuesStay};
 ghost use Rattle.broker_script.specs.Transcript.{FollowsLine};
-ghost use Rattle.broker_points.specs.Points.{downtime, eviction, IsPointAfter, Leads};
+ghost use Rattle.broker_points.specs.Points.{downtime, eviction, IsPointAfterAll, Leads};
 ghost use Rattle.broker_points.specs.Reports.{line_of_point};
 
 use crate::evicting::words_kept;
@@ -168,8 +168,7 @@ pub fn crash(
     evictions: Evictions,
 ) -> Result<Point, Refusal>
     requires { IsServedBroker broker.now }
-    ensures point { IfOk result (λ point. IsPointAfter (counts_by broker.now) acts.now evictions
-        (length acts.now) point.text.items) }
+    ensures point { IfOk result (λ point. IsPointAfterAll broker.now acts.now evictions point.text.items) }
     ensures ok { IfOk result (λ point. IsTrue point.ok) }
     ensures errors { IfErr result (λ e. e ≡ Refusal.NoMemory) }
 {

@@ -6,7 +6,8 @@ use Rattle.std.specs.Prelude.{Option, Some, None, All}
 use Rattle.grammar.specs.Lines.{words_of, is_statement}
 use Rattle.grammar.specs.declared.limits.TheConstants.{MAX_LINES}
 use Rattle.broker_script.specs.Grammar.{broker_words, statement_words, IsServedStatement, SaysStatement}
-use Rattle.broker_script.specs.Script.{Says, Continues, EndsBadly, IsFirstBad, MayFollowAll, may_follow}
+use Rattle.broker_script.specs.Script.{Says, SaysScript, Continues, EndsBadly, IsFirstBad, MayFollowAll, may_follow}
+use Rattle.broker_script.specs.Scripted.{Scripted}
 use Rattle.broker_script.specs.declared.statements.BrokerLine.{BrokerLine}
 use Rattle.broker_script.specs.declared.statements.Statement.{Statement}
 use Rattle.broker_script.proofs.Words.{same_broker, same_statements}
@@ -160,8 +161,8 @@ stops_past lines k line turn many broker statements says =
           (subst (λ (ls : List (List ℕ)). Says ls other more) (next_lines lines k line turn) bad);
     }
 
--- lines say at most one script
-pub same_script : (lines : List (List ℕ)) (b c : Option BrokerLine) (ss ts : List Statement) → Says lines b ss
+-- lines say at most one broker and at most one list of statements
+same_script : (lines : List (List ℕ)) (b c : Option BrokerLine) (ss ts : List Statement) → Says lines b ss
     → Says lines c ts → (b ≡ c) × (ss ≡ ts)
 same_script lines None None ss ts one other = (refl, one.broker_first refl ∙ sym (other.broker_first refl))
 same_script lines None (Some c) ss ts one other =
@@ -175,3 +176,10 @@ same_script lines (Some b) None ss ts one other =
 same_script lines (Some b) (Some c) ss ts one other =
     let both : broker_words b ∷ map statement_words ss ≡ broker_words c ∷ map statement_words ts = sym one.words ∙ other.words in
     (ap Some (same_broker b c one.broker_served other.broker_served (cc)), same_statements ss ts one.served other.served (cc))
+
+-- and at most one script
+pub one_script : (lines : List (List ℕ)) (one other : Scripted) → SaysScript lines one → SaysScript lines other → one ≡ other
+one_script lines one other a b =
+    let same : (one.broker ≡ other.broker) × (one.statements ≡ other.statements) =
+    same_script lines one.broker other.broker one.statements other.statements a b in
+    ap (λ q. record one { broker = q }) same.0 ∙ ap (λ ss. record other { statements = ss }) same.1

@@ -45,9 +45,9 @@ ask_words (Request client number call) = codes "request" ∷ decimal client.0 �
 ask_words (Plain client call) = codes "plain" ∷ decimal client.0 ∷ call_words call
 ask_words (Begin client number call) = codes "begin" ∷ decimal client.0 ∷ decimal number ∷ call_words call
 
--- `create NAME KIND`, `create NAME KIND M`, `create-step`, `create-step M`, `find NAME`, `list`, `rotate`, `renew NAME`,
--- `image`, `set W N`, `boot`, a line of a queue's script that is about the whole memory, `NAME: ` and one that is about
--- the queue, `NAME: told C`, and `NAME: ` and what a client asks the session
+-- `create NAME KIND`, `create NAME KIND M`, `create-step`, `create-step M`, `find NAME`, `list`, `rotate`,
+-- `renew NAME`, `image`, `set W N`, `boot`, a line of a queue's script that is about the whole memory, `NAME: ` and one
+-- that is about the queue, `NAME: told C`, and `NAME: ` and what a client asks the session
 abbrev pub statement_words : Statement → List (List ℕ)
 statement_words (Create name kind) = codes "create" ∷ name ∷ kind_word kind ∷ []
 statement_words (BeginCreation name kind most) = codes "create" ∷ name ∷ kind_word kind ∷ decimal most ∷ []

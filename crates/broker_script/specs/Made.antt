@@ -1,7 +1,10 @@
 -- Acts that are added to a list as they are accepted, and lines as they are given.
-use Rattle.std.specs.Prelude.{◌≡◌, List, ◌++◌}
+use Rattle.std.specs.Prelude.{◌≡◌, ℕ, List, ◌∷◌, ◌++◌, replicate}
+use Rattle.words.specs.declared.call.Kind.{Kind}
 use Rattle.broker_script.specs.Play.{Played}
+use Rattle.broker_script.specs.declared.statements.Ask.{Ask}
 use Rattle.broker_script.specs.declared.statements.Statement.{Statement}
+use Rattle.broker_script.specs.declared.statements.Statement.TheVariants.{BeginCreation, Asks}
 use Rattle.broker_script.specs.Acts.{Attempts, attempts_of}
 use Rattle.broker_script.specs.Transcript.{FollowsLine}
 use Rattle.broker_script.specs.declared.printed.Printed.{Printed}
@@ -15,6 +18,17 @@ pub record Adds (old : Played) (attempts before after : List Statement) (new : P
 -- the acts that this line attempts were attempted, and those that were accepted added to a list
 abbrev pub AddsActsOf : Statement → Played → List Statement → List Statement → Played → Type 0
 AddsActsOf statement old before after new = Adds old (attempts_of statement) before after new
+
+-- so were an act that begins something and up to so many steps of that
+abbrev pub AddsBegun : Statement → Statement → ℕ → Played → List Statement → List Statement → Played → Type 0
+AddsBegun first step most old before after new = Adds old (first ∷ replicate most step) before after new
+
+-- so were the acts of a creation that begins and makes up to so many steps, and those of what a client asks
+abbrev pub AddsCreation : List ℕ → Kind → ℕ → Played → List Statement → List Statement → Played → Type 0
+AddsCreation name kind most old before after new = AddsActsOf (BeginCreation name kind most) old before after new
+
+abbrev pub AddsAsked : List ℕ → Ask → Played → List Statement → List Statement → Played → Type 0
+AddsAsked name ask old before after new = AddsActsOf (Asks name ask) old before after new
 
 -- this line was followed, and what it gave was added
 abbrev pub AddsGiven : Statement → Played → List Printed → List Printed → Played → Type 0

@@ -1,10 +1,11 @@
 -- Lines on one queue: what they come to is what they come to on that queue alone.
 use Rattle.std.specs.Prelude.{◌≡◌, ◌≢◌, ◌&&◌, not, ℕ, Bool, false, List, [], ◌∷◌, Option, Some, None, Result, Ok, Err, slice_get, slice_index, MatchBool}
+use Rattle.words.specs.declared.call.Call.{Call}
 use Rattle.words.specs.declared.call.Client.{Client}
 use Rattle.words.specs.declared.call.Kind.{Kind}
 use Rattle.words.specs.declared.call.Reply.{Reply}
 use Rattle.words.specs.declared.refusal.Refusal.{Refusal}
-use Rattle.words.specs.declared.refusal.Refusal.TheVariants.{WrongKind}
+use Rattle.words.specs.declared.refusal.Refusal.TheVariants.{NoMemory, WrongKind}
 use Rattle.words.specs.declared.told.Told.{Told}
 use Rattle.arena.specs.declared.broker.SlotId.{SlotId}
 use Rattle.interleave.specs.Queue.{told_in, told_to}
@@ -14,7 +15,7 @@ use Rattle.grammar.specs.declared.commands.Command.{Command}
 use Rattle.named.specs.Acting.{IsSameBeside}
 use Rattle.named.specs.Brokers.{Brokered, answer_at}
 use Rattle.named.specs.Finding.{IsPlaced}
-use Rattle.playing.specs.Play.{Play, after_command}
+use Rattle.playing.specs.Play.{Play, after_command, play_after_start}
 use Rattle.playing.specs.Steps.{count_after}
 use Rattle.playing.specs.Transcript.{command_lines}
 use Rattle.playing.specs.declared.lines.Line.{Line}
@@ -37,6 +38,16 @@ pub record IsOnlyIn (slot : ℕ) (old new : Played) : Type 0 where
   pub creation : new.creation ≡ old.creation
   pub recovery : new.recovery ≡ old.recovery
   pub image : new.image ≡ old.image
+
+-- a client's call began on the queue in a slot, or was refused: it left there what a start leaves on that queue alone
+abbrev pub IsLeftByStartIn : Played → ℕ → Client → ℕ → Call → Played → Type 0
+IsLeftByStartIn old slot client number call new =
+    play_at new slot ≡ play_after_start (play_at old slot) client number call
+
+-- why a step of a client's call on the queue in a slot was refused, but for want of memory
+abbrev pub IsWhyNoStep : Played → ℕ → Client → Refusal → Type 0
+IsWhyNoStep p slot client refusal =
+    refusal ≢ NoMemory → step_result false (the_world p.broker slot) client ≡ Err refusal
 
 -- a line was followed on the queue in a slot: it gave and left there what it gives and leaves on that queue alone
 pub record IsFollowedIn (old : Played) (slot : ℕ) (command : Command) (lines : List Line) (new : Played) : Type 0 where

@@ -33,8 +33,8 @@ is_answer _ = true
 abbrev pub without_refusals : List Printed → List Printed
 without_refusals lines = filter is_answer lines
 
--- some lines, one after the other, of which none is put off. Each is followed on a broker that is as the one before left
--- it, but for how many accesses its memory had, and for the room in histories
+-- some lines, one after the other, of which none is put off. Each is followed on a broker that is as the one before
+-- left it, but for how many accesses its memory had, and for the room in histories
 pub data FollowsPlainly : Played → List Statement → List Printed → Type 0 where
   all_followed : {old : Played} → FollowsPlainly old [] []
   next_line : {old : Played} {statement : Statement} {statements : List Statement} (from to : Played)

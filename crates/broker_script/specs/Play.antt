@@ -11,9 +11,9 @@ use Rattle.playing.specs.declared.steps.TheConstants.{CLIENT_NUMBERS}
 use Rattle.playing.specs.declared.steps.Steps.{Steps}
 use Rattle.session.specs.Sessions.{Sessioned}
 
--- a broker, what its session keeps of each client in each slot, how many steps the calls on each slot's queue have made,
--- the creation that was begun last, and recovery since the last crash, and the words of the image that is remembered, of
--- which there is none at first
+-- a broker, what its session keeps of each client in each slot, how many steps the calls on each slot's queue have
+-- made, the creation that was begun last, and recovery since the last crash, and the words of the image that is
+-- remembered, of which there is none at first
 pub record Played : Type 0 where
   pub broker : Brokered
   pub kept : List (List (Option Verdict))

@@ -26,10 +26,13 @@ told_in_slot p slot (Some (Some queue)) = of_queue queue.name (told_at_slot p sl
 told_in_slot p slot (Some None) = []
 told_in_slot p slot None = []
 
--- of the slots below this one
+-- of a slot as the directory has it, and of the slots below this one
+abbrev pub told_of_slot : Played → ℕ → List Printed
+told_of_slot p slot = told_in_slot p slot (slice_get p.broker.directory slot)
+
 abbrev pub told_below : Played → ℕ → List Printed
 told_below p zero = []
-told_below p (suc slot) = told_below p slot ++ told_in_slot p slot (slice_get p.broker.directory slot)
+told_below p (suc slot) = told_below p slot ++ told_of_slot p slot
 
 -- a ready broker gives how many steps there were since the crash, and what each client of each queue is told
 abbrev pub ready_lines : Played → List Printed

@@ -8,6 +8,7 @@ use Rattle.grammar.specs.Lines.{words_of, is_statement}
 use Rattle.grammar.specs.declared.commands.Command.{Command}
 use Rattle.grammar.specs.declared.limits.TheConstants.{MAX_LINES}
 use Rattle.broker_script.specs.Grammar.{broker_words, statement_words, IsServedBroker, IsServedStatement, SaysStatement}
+use Rattle.broker_script.specs.Scripted.{Scripted}
 use Rattle.broker_script.specs.declared.statements.BrokerLine.{BrokerLine}
 use Rattle.broker_script.specs.declared.statements.Statement.{Statement}
 use Rattle.broker_script.specs.declared.statements.Statement.TheVariants.{Create, BeginCreation, On}
@@ -51,6 +52,10 @@ pub record Says (lines : List (List ℕ)) (broker : Option BrokerLine) (statemen
   pub served : All IsServedStatement statements
   pub of_kind : MayFollowAll [] statements
 
+-- the same of a script as one value
+abbrev pub SaysScript : List (List ℕ) → Scripted → Type 0
+SaysScript lines script = Says lines script.broker script.statements
+
 -- the lines before this one say a script, and with it they say none
 pub record IsFirstBad (lines : List (List ℕ)) (number : ℕ) : Type 0 where
   pub some : 1 ≤ number
@@ -69,7 +74,8 @@ abbrev pub SaysAfter : List Statement → List ℕ → Statement → Type 0
 SaysAfter before line statement = SaysStatement line statement × (may_follow before statement ≡ true)
 
 abbrev pub SaysNoneAfter : List Statement → List ℕ → Type 0
-SaysNoneAfter before line = (statement : Statement) → SaysStatement line statement → may_follow before statement ≡ true → ⊥
+SaysNoneAfter before line =
+    (statement : Statement) → SaysStatement line statement → may_follow before statement ≡ true → ⊥
 
 -- whatever lines said the script so far, they say the new one with this line
 abbrev pub Continues : Option BrokerLine → List Statement → List ℕ → Option BrokerLine → List Statement → Type 0

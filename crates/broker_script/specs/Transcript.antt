@@ -135,8 +135,8 @@ FollowsLine old (On name command) lines new = FollowsOn old name command lines n
 FollowsLine old (Told name client) lines new = Tells old name client lines new
 FollowsLine old (Asks name ask) lines new = FollowsAsk old name ask lines new
 
--- some lines, one after the other. Where one was put off for want of memory, and `again` comes after it, a line says so,
--- and it is made again
+-- some lines, one after the other. Where one was put off for want of memory, and `again` comes after it, a line says
+-- so, and it is made again
 pub data FollowsAll : Played → List Statement → List Printed → Type 0 where
   none : {old : Played} → FollowsAll old [] []
   more : {old : Played} {statement : Statement} {statements : List Statement} (next : Played)

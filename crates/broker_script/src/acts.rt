@@ -4,7 +4,7 @@ ghost use Rattle.std.specs.Prelude.{◌≡◌, ◌++◌, ◌∷◌, [], Some, On
 ghost use Rattle.broker_script.specs.Play.{Played, new_played};
 ghost use Rattle.broker_script.specs.declared.statements.Statement.{Statement};
 ghost use Rattle.broker_script.specs.Acts.{act_of, beginning, plain_command, steps_of, is_refusal, is_refused, most_recovery, says_refused, times_of, AreActsOf, Attempts, IsAttempted};
-ghost use Rattle.broker_script.specs.Made.{Adds, AddsActsOf};
+ghost use Rattle.broker_script.specs.Made.{Adds, AddsActsOf, AddsAsked, AddsBegun, AddsCreation};
 
 use crate::asking::asker;
 use crate::player::Player;
@@ -122,7 +122,7 @@ fn begin(
     most: u32,
 ) -> Result<(), Refusal>
     ensures acts { OnOk result
-        (Adds player.old (first.now ∷ replicate most step.now) acts.old.items acts.new.items player.new) }
+        (AddsBegun first.now step.now most player.old acts.old.items acts.new.items player.new) }
     ensures errors { IfErr result (λ e. e ≡ Refusal.NoMemory) }
 {
     let accepted = attempt(alloc, player, first)?;
@@ -142,7 +142,8 @@ fn create(
     kind: Kind,
     most: u32,
 ) -> Result<(), Refusal>
-    ensures acts { OnOk result (AddsActsOf (Statement.BeginCreation name.now kind most) player.old acts.old.items acts.new.items player.new) }
+    ensures acts { OnOk result
+        (AddsCreation name.now kind most player.old acts.old.items acts.new.items player.new) }
     ensures errors { IfErr result (λ e. e ≡ Refusal.NoMemory) }
 {
     let first = Statement::BeginCreation {
@@ -211,7 +212,7 @@ fn ask_for(
     name: &Name,
     ask: &Ask,
 ) -> Result<(), Refusal>
-    ensures acts { OnOk result (AddsActsOf (Statement.Asks name.now ask.now) player.old acts.old.items acts.new.items player.new) }
+    ensures acts { OnOk result (AddsAsked name.now ask.now player.old acts.old.items acts.new.items player.new) }
     ensures errors { IfErr result (λ e. e ≡ Refusal.NoMemory) }
 {
     let first = beginning(name, ask);

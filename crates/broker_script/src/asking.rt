@@ -5,7 +5,7 @@ ghost use Rattle.named.specs.Brokers.{world_at};
 ghost use Rattle.broker_script.specs.Asking.{answer_line, as_answered, asked_number, asker, begun_line, AsksPlaced, FollowsAsk, IsAskedIn};
 ghost use Rattle.playing.specs.Play.{steps_with};
 ghost use Rattle.broker_script.specs.Play.{steps_at};
-ghost use Rattle.broker_script.specs.PutOff.{IsPutOff, PutsOff};
+ghost use Rattle.broker_script.specs.PutOff.{HadMemory, IsPutOff, PutsOff};
 
 use crate::lines::Room;
 use crate::player::Player;
@@ -112,7 +112,7 @@ impl Player {
         number: u64,
         call: Call,
     ) -> Result<Option<Reply>, Refusal>
-        ensures asked { result ≢ Err Refusal.NoMemory
+        ensures asked { HadMemory result
             → IsAskedIn self.old slot.0 (Ask.Request client number call) result self.new }
         ensures put_off { result ≡ Err Refusal.NoMemory → IsPutOff self.old self.new }
     {
@@ -123,8 +123,7 @@ impl Player {
 
     /// Asks it for a call without a number, which runs to its end.
     fn plain(&mut self, slot: SlotId, client: Client, call: Call) -> Result<Option<Reply>, Refusal>
-        ensures asked { result ≢ Err Refusal.NoMemory
-            → IsAskedIn self.old slot.0 (Ask.Plain client call) result self.new }
+        ensures asked { HadMemory result → IsAskedIn self.old slot.0 (Ask.Plain client call) result self.new }
         ensures put_off { result ≡ Err Refusal.NoMemory → IsPutOff self.old self.new }
     {
         self.session.is_right();
@@ -152,7 +151,7 @@ impl Player {
         call: Call,
     ) -> Result<Option<Reply>, Refusal>
         requires open { IsSome (world_at self.old.broker slot.0) }
-        ensures asked { result ≢ Err Refusal.NoMemory
+        ensures asked { HadMemory result
             → IsAskedIn self.old slot.0 (Ask.Begin client number call) result self.new }
         ensures put_off { result ≡ Err Refusal.NoMemory → IsPutOff self.old self.new }
     {
@@ -170,7 +169,7 @@ impl Player {
     /// Asks the session for a call of the queue in a slot.
     fn ask(&mut self, slot: SlotId, ask: &Ask) -> Result<Option<Reply>, Refusal>
         requires open { IsSome (world_at self.old.broker slot.0) }
-        ensures asked { result ≢ Err Refusal.NoMemory → IsAskedIn self.old slot.0 ask.now result self.new }
+        ensures asked { HadMemory result → IsAskedIn self.old slot.0 ask.now result self.new }
         ensures put_off { result ≡ Err Refusal.NoMemory → IsPutOff self.old self.new }
     {
         match ask {

@@ -1,17 +1,17 @@
 //! Lines on a queue of a broker that follows a script.
 
 ghost use Rattle.std.specs.Prelude.{◌≡◌, ◌≢◌, ◌<◌, ◌∷◌, [], ℕ, false, true, Ok, Err, None, Some, IsSome, IfOk, IfErr, IsErrOf, OnOk, OnErr, option_to_list, slice_get, slice_index};
-ghost use Rattle.interleave.specs.State.{start_result, step_result};
+ghost use Rattle.interleave.specs.State.{start_result};
 ghost use Rattle.named.specs.Brokers.{world_at};
 ghost use Rattle.named.specs.Finding.{IsPlaced};
-ghost use Rattle.playing.specs.Play.{after_steps, play_after_start, play_after_step};
+ghost use Rattle.playing.specs.Play.{after_steps, play_after_step};
 ghost use Rattle.playing.specs.Steps.{call_counted, count_after};
 ghost use Rattle.playing.specs.Transcript.{command_lines, start_line, step_lines};
 ghost use Rattle.grammar.specs.Grammar.{is_shown};
 ghost use Rattle.broker_script.specs.Grammar.{is_whole};
-ghost use Rattle.broker_script.specs.OnQueue.{answer_line, has_line, Follows, FollowsOn, FollowsPlaced, IsAnsweredBy, IsFollowedIn, IsOnlyIn};
+ghost use Rattle.broker_script.specs.OnQueue.{answer_line, has_line, Follows, FollowsOn, FollowsPlaced, IsAnsweredBy, IsFollowedIn, IsOnlyIn, IsLeftByStartIn, IsWhyNoStep};
 ghost use Rattle.broker_script.specs.Play.{play_at, steps_at, the_world};
-ghost use Rattle.broker_script.specs.PutOff.{IsPutOff, PutsOff};
+ghost use Rattle.broker_script.specs.PutOff.{HadMemory, IsPutOff, PutsOff};
 
 use crate::lines::{Room, labelled, one_line, unfollowed};
 use crate::player::Player;
@@ -101,10 +101,9 @@ impl Player {
     ) -> Result<(), Refusal>
         requires ready { self.old.broker.recovery ≡ None }
         requires open { IsSome (world_at self.old.broker slot.0) }
-        ensures answer { result ≢ Err Refusal.NoMemory
+        ensures answer { HadMemory result
             → result ≡ start_result false (the_world self.old.broker slot.0) client number }
-        ensures play { result ≢ Err Refusal.NoMemory
-            → play_at self.new slot.0 ≡ play_after_start (play_at self.old slot.0) client number call }
+        ensures play { HadMemory result → IsLeftByStartIn self.old slot.0 client number call self.new }
         ensures put_off { result ≡ Err Refusal.NoMemory → IsPutOff self.old self.new }
         ensures only { IsOnlyIn slot.0 self.old self.new }
     {
@@ -134,8 +133,7 @@ impl Player {
         requires ready { self.old.broker.recovery ≡ None }
         requires open { IsSome (world_at self.old.broker slot.0) }
         ensures answered { IfOk result (IsAnsweredBy (play_at self.old slot.0) client) }
-        ensures refused { IfErr result (λ e. e ≢ Refusal.NoMemory
-            → step_result false (the_world self.old.broker slot.0) client ≡ Err e) }
+        ensures refused { IfErr result (IsWhyNoStep self.old slot.0 client) }
         ensures play { OnOk result (play_at self.new slot.0 ≡ play_after_step (play_at self.old slot.0) client) }
         ensures same { IfErr result (λ e. e ≢ Refusal.NoMemory → play_at self.new slot.0 ≡ play_at self.old slot.0) }
         ensures put_off { result ≡ Err Refusal.NoMemory → IsPutOff self.old self.new }

@@ -1,9 +1,8 @@
 //! Creations of a broker that follows a script.
 
-ghost use Rattle.std.specs.Prelude.{◌≡◌, IfOk, IfErr, IfSome, IfNone, IsSome, None};
+ghost use Rattle.std.specs.Prelude.{◌≡◌, IfOk, IfErr, IfSome, IfNone, None};
 ghost use Rattle.directory.specs.Directory.{HasQueue};
-ghost use Rattle.directory.specs.declared.queue.Queue.{Queue as Place};
-ghost use Rattle.broker_script.specs.Creating.{BeginsCreation, Creates, HasSomeQueue, IsBegunOn, IsCreatedOn, ShowsCreated};
+ghost use Rattle.broker_script.specs.Creating.{BeginsCreation, Creates, HasSomeQueue, IsBegunOn, IsCreatedOn, IsFoundWhenReady, ShowsCreated};
 ghost use Rattle.broker_script.specs.PutOff.{PutsOff};
 
 use crate::lines::Room;
@@ -19,8 +18,7 @@ impl Player {
     /// The queue in a slot, if there is one, while no recovery is under way.
     fn queue_in(&self, slot: SlotId) -> Option<Queue>
         ensures found { IfSome result (HasQueue self.now.broker.directory slot.0) }
-        ensures none { self.now.broker.recovery ≡ None → (queue : Place)
-            → HasQueue self.now.broker.directory slot.0 queue → IsSome result }
+        ensures none { IsFoundWhenReady self.now.broker slot.0 result }
     {
         let Ok(places) = self.session.broker().list() else {
             return None;

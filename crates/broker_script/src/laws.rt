@@ -2,7 +2,8 @@
 
 ghost use Rattle.std.specs.Prelude.{◌≡◌, ℕ, List, Option};
 ghost use Rattle.broker_script.specs.Plain.{without_refusals, ArePlainButForRefusals, HasNoAgain};
-ghost use Rattle.broker_script.specs.Script.{Says};
+ghost use Rattle.broker_script.specs.Script.{SaysScript};
+ghost use Rattle.broker_script.specs.Scripted.{Scripted};
 ghost use Rattle.broker_script.specs.Transcript.{AreLinesOf};
 ghost use Rattle.broker_script.specs.declared.printed.Printed.{Printed};
 ghost use Rattle.broker_script.specs.declared.statements.BrokerLine.{BrokerLine};
@@ -10,19 +11,21 @@ ghost use Rattle.broker_script.specs.declared.statements.Statement.{Statement};
 
 /// Lines say at most one script.
 pub fn one_script_a_text()
-    ensures { (lines : List (List ℕ)) (b c : Option BrokerLine) (ss ts : List Statement)
-        → Says lines b ss → Says lines c ts → (b ≡ c) × (ss ≡ ts) }
+    ensures { (lines : List (List ℕ)) (one other : Scripted)
+        → SaysScript lines one → SaysScript lines other → one ≡ other }
 {}
 
 /// A transcript without its lines that say that memory was refused is one of the script without its lines `again`, of
 /// which no line is put off.
 pub fn refusals_alone_differ()
+    // Long: a law names all that it holds of.
     ensures { (broker : Option BrokerLine) (statements : List Statement) (lines : List Printed)
         → AreLinesOf broker statements lines → ArePlainButForRefusals broker statements lines }
 {}
 
 /// A script with no line `again` has no line that says that memory was refused.
 pub fn no_refusal_without_again()
+    // Long: a law names all that it holds of.
     ensures { (broker : Option BrokerLine) (statements : List Statement) (lines : List Printed)
         → HasNoAgain statements → AreLinesOf broker statements lines → without_refusals lines ≡ lines }
 {}

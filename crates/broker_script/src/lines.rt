@@ -1,6 +1,7 @@
 //! Lines put together.
 
 ghost use Rattle.std.specs.Prelude.{◌≡◌, ◌≢◌, ◌++◌, ◌∷◌, [], OnOk, OnErr, IfOk, IfErr, IsErrOf, false};
+ghost use Rattle.broker_script.specs.PutOff.{refusal_line};
 ghost use Rattle.broker_script.specs.Recovering.{of_queue};
 
 use crate::printed::Printed;
@@ -79,11 +80,11 @@ pub(crate) fn one_line(alloc: Global, line: Line) -> Result<Vec<Line>, Refusal>
     }
 }
 
-/// A line that says why an act was refused. Want of memory is no line, but puts the line off that was to be followed, of
-/// which nothing was made, or leaves it half followed.
+/// A line that says why an act was refused. Want of memory is no line, but puts the line off that was to be followed,
+/// of which nothing was made, or leaves it half followed.
 pub(crate) fn refused(room: Room, begun: bool, refusal: Refusal) -> Result<Vec<Printed>, Unfollowed>
     ensures line { IfOk result (λ lines.
-        (refusal ≢ Refusal.NoMemory) × (lines.items ≡ Printed.Whole (Line.Refused refusal) ∷ [])) }
+        (refusal ≢ Refusal.NoMemory) × (lines.items ≡ refusal_line refusal ∷ [])) }
     ensures memory { OnErr result (refusal ≡ Refusal.NoMemory) }
     ensures begun { IsErrOf result Unfollowed.PutOff → begun ≡ false }
 {

@@ -3,7 +3,7 @@
 ghost use Rattle.std.specs.Prelude.{MatchOption, ◌≡◌, ◌||◌, Ok, IfOk, IfErr, Option, None, Some, not, true, false};
 ghost use Rattle.std.specs.List.{list_any};
 ghost use Rattle.grammar.specs.Lines.{lines_of};
-ghost use Rattle.broker_script.specs.Script.{Says, SaysAfter, SaysNoneAfter, IsWhyUnread, Continues, EndsBadly, creates, creates_for, may_follow};
+ghost use Rattle.broker_script.specs.Script.{SaysAfter, SaysNoneAfter, SaysScript, IsWhyUnread, Continues, EndsBadly, creates, creates_for, may_follow};
 ghost use Rattle.broker_script.specs.declared.statements.Statement.{Statement};
 
 use crate::rows::{broker_line, statement};
@@ -113,7 +113,7 @@ fn add_line(
 /// The script that a text says. It is refused where memory is (NoMemory), and else where a line is not in
 /// the grammar, or is past the [`MAX_LINES`]th: BadLine, with the number of the first such line.
 pub fn parse_script(alloc: Global, text: &[u8]) -> Result<Script, Refusal>
-    ensures script { IfOk result (λ script. Says (lines_of text.now) script.broker script.statements) }
+    ensures script { IfOk result (SaysScript (lines_of text.now)) }
     ensures errors { IfErr result (IsWhyUnread (lines_of text.now)) }
 {
     let mut broker = None;

@@ -33,7 +33,8 @@ fn is_again(statements: &[Statement], at: usize) -> bool
     }
 }
 
-/// Follows a line, and adds what it gives, or says that it is put off, if it may be made again. It answers whether it is.
+/// Follows a line, and adds what it gives, or says that it is put off, if it may be made again. It answers whether it
+/// is.
 fn follow(
     alloc: Global,
     player: &mut Player,

@@ -1,12 +1,12 @@
 //! Crashes and recoveries of a broker that follows a script.
 
-ghost use Rattle.std.specs.Prelude.{◌≡◌, ◌≢◌, ◌<◌, ◌≤◌, Ok, Err, None, Some, true, IsSome, IfOk, IfErr, length, slice_get};
+ghost use Rattle.std.specs.Prelude.{◌≡◌, ◌<◌, ◌≤◌, Ok, Err, None, Some, true, IsSome, IfOk, IfErr, length};
 ghost use Rattle.named.specs.Brokers.{world_at};
 ghost use Rattle.named.specs.Lasting.{steps_left};
 ghost use Rattle.playing.specs.Transcript.{told_at};
 ghost use Rattle.broker_script.specs.Play.{the_world};
-ghost use Rattle.broker_script.specs.PutOff.{IsPutOff, PutsOff};
-ghost use Rattle.broker_script.specs.Recovering.{ready_lines, told_at_slot, told_below, told_in_slot, IsRecoveredOn, Recovers, RecoversBy};
+ghost use Rattle.broker_script.specs.PutOff.{HadMemory, IsPutOff, PutsOff};
+ghost use Rattle.broker_script.specs.Recovering.{ready_lines, told_at_slot, told_below, told_of_slot, IsRecoveredOn, Recovers, RecoversBy};
 ghost use Rattle.broker_script.specs.Transcript.{Crashes};
 
 use crate::lines::{Room, append, labelled, one, refused};
@@ -74,8 +74,7 @@ impl Player {
         requires few { length places.now ≤ SLOTS }
         requires places { places.now ≡ self.now.broker.directory }
         requires ready { self.now.broker.recovery ≡ None }
-        ensures lines { IfOk result (λ lines.
-            lines.items ≡ told_in_slot self.now slot (slice_get self.now.broker.directory slot)) }
+        ensures lines { IfOk result (λ lines. lines.items ≡ told_of_slot self.now slot) }
         ensures errors { IfErr result (λ e. e ≡ Refusal.NoMemory) }
     {
         let _ = &self.session;
@@ -134,7 +133,7 @@ impl Player {
 
     /// One step of recovery. It answers whether the broker is ready now.
     fn recover_step(&mut self) -> Result<bool, Refusal>
-        ensures step { result ≢ Err Refusal.NoMemory → IsRecoveredOn self.old result self.new }
+        ensures step { HadMemory result → IsRecoveredOn self.old result self.new }
         ensures ready { result ≡ Ok true → self.new.broker.recovery ≡ None }
         ensures put_off { result ≡ Err Refusal.NoMemory → IsPutOff self.old self.new }
         ensures falls { IfOk result (λ ready. steps_left self.new.broker < steps_left self.old.broker) }

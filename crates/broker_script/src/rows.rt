@@ -1,13 +1,12 @@
 //! The lines that are served, a row for each.
 
-ghost use Rattle.std.specs.Prelude.{◌≡◌, ◌≢◌, ◌∷◌, [], List, MatchOption, decimal};
+ghost use Rattle.std.specs.Prelude.{◌≡◌, ◌∷◌, [], List, MatchOption, decimal};
 ghost use Rattle.words.specs.declared.call.Call.{Call};
 ghost use Rattle.words.specs.declared.call.Client.{Client};
-ghost use Rattle.words.specs.declared.call.Kind.{Kind};
 ghost use Rattle.directory.specs.Name.{IsName};
 ghost use Rattle.grammar.specs.Grammar.{kind_word};
 ghost use Rattle.grammar.specs.Limits.{IsWithin};
-ghost use Rattle.grammar.specs.Lines.{words_of};
+ghost use Rattle.grammar.specs.Lines.{words_of, IsOneWord};
 ghost use Rattle.grammar.specs.Reading.{Reads, Reads₂, Reads₃, SaysNone, SaysNone₂, SaysNone₃};
 ghost use Rattle.grammar.specs.declared.commands.Command.{Command};
 ghost use Rattle.broker_script.specs.Grammar.{call_words, is_whole, label, numbered_call_words, IsServedCall, SaysAsk, SaysBroker, SaysStatement};
@@ -81,8 +80,8 @@ fn label_first(line: &[u8]) -> Option<(Name, &[u8])>
 
 /// The kind that is all of a text.
 fn one_kind(text: &[u8]) -> Option<Kind>
-    ensures { MatchOption result ((kind : Kind) → words_of text.now ≢ kind_word kind ∷ [])
-        (λ kind. words_of text.now ≡ kind_word kind ∷ []) }
+    ensures { MatchOption result (SaysNone (IsOneWord text.now) kind_word)
+        (λ kind. IsOneWord text.now (kind_word kind)) }
 {
     if is_name(text, b"durable") {
         return Some(Kind::Durable);

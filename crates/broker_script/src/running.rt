@@ -2,8 +2,8 @@
 
 ghost use Rattle.std.specs.Prelude.{◌≡◌, ◌<◌, ◌↔◌, OnOk, OnErr, IfOk, IfErr, IsErrOf};
 ghost use Rattle.devices.specs.Devices.{IsFlushed};
-ghost use Rattle.playing.specs.Run.{IsReadRefusal, IsRunRefusal, WritesNothing};
-ghost use Rattle.broker_script.specs.Run.{NamesBadLine, Prints, PrintsBeginning, SaysInput};
+ghost use Rattle.playing.specs.Run.{IsReadRefusal, IsRunRefusal, OnWriteFailed, WritesNothing};
+ghost use Rattle.broker_script.specs.Run.{BeginsRun, NamesBadLine, PrintsRun, SaysInput};
 
 use crate::parser::parse_script;
 use crate::play::transcript;
@@ -35,15 +35,14 @@ pub fn run<R: Reader, W: Writer>(
 ) -> Result<(), Refusal>
     requires reads { R.failures reader.old < MAX_FAILURES }
     requires writes { W.failures writer.old < MAX_FAILURES }
-    ensures printed { OnOk result (Prints (R.left reader.old) (W.written writer.old) (W.written writer.new)) }
+    ensures printed { OnOk result (PrintsRun R.Reader W.Writer reader.old writer.old writer.new) }
     ensures flushed { OnOk result (IsFlushed (W.written writer.new) (W.flushed writer.new)) }
     ensures refusals { IfErr result IsRunRefusal }
     ensures read_failed { IsErrOf result Refusal.ReadFailed ↔ (R.failures reader.old < R.failures reader.new) }
     ensures write_failed { IsErrOf result Refusal.WriteFailed ↔ (W.failures writer.old < W.failures writer.new) }
     ensures bad_line { IfErr result (NamesBadLine (R.left reader.old)) }
     ensures unwritten { IfErr result (WritesNothing (W.written writer.old) (W.written writer.new)) }
-    ensures beginning { IsErrOf result Refusal.WriteFailed
-        → PrintsBeginning (R.left reader.old) (W.written writer.old) (W.written writer.new) }
+    ensures beginning { OnWriteFailed result (BeginsRun R.Reader W.Writer reader.old writer.old writer.new) }
 {
     let script = read_script(alloc, reader)?;
     let printed = transcript(alloc, &script)?;

@@ -1,3 +1,4 @@
 pub mod Points
 pub mod Pieces
 pub mod Reports
+pub mod Runs

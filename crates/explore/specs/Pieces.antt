@@ -14,9 +14,10 @@ abbrev pub found_of_schedule : Schedule → List ℕ → List Found
 found_of_schedule schedule points =
     map (found_at schedule.layout schedule.acts.items schedule.evictions) points
 
--- those of a piece, and all from one on, up to another
+-- what is found at those of a piece
 abbrev pub found_in_piece : Schedule → ℕ → ℕ → ℕ → List Found
 found_in_piece schedule from to piece = found_of_schedule schedule (piece_range from to piece)
 
-abbrev pub found_up_to : Schedule → ℕ → ℕ → List Found
-found_up_to schedule from to = found_of_schedule schedule (range_with_len from (to - from))
+-- those of all points from one on, up to another
+abbrev pub found_in_range : Schedule → ℕ → ℕ → List Found
+found_in_range schedule from to = found_of_schedule schedule (range_with_len from (to - from))

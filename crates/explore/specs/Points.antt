@@ -64,6 +64,13 @@ abbrev pub found_of : Point → Found
 found_of point =
     record { steps = point.steps; told = point.told; content = point.content.items; ok = point.ok }
 
+abbrev pub all_found : List Point → List Found
+all_found points = map found_of points
+
+-- a point is added, at which this is found
+abbrev pub AddsFound : List Point → List Point → Found → Type 0
+AddsFound before after found = all_found after ≡ all_found before ++ found ∷ []
+
 -- all are told who may have a number; in every world the order explains all that happened (`IsExplained`)
 unfoldable pub found_in : State → ℕ → Found
 found_in w steps = record {
@@ -89,10 +96,10 @@ found_by_recovery w recovery = found_in (after_acts w recovery) (taken_of w reco
 abbrev pub found_stopped : State → Found
 found_stopped w = found_by_recovery (after_stop w) (recovery_of w.shape)
 
--- a world that had made the first of these acts, so many of them, has made the next one too, if there is one
-abbrev pub GoesOnByAct : List (Act ℕ) → ℕ → State → State → Type 0
-GoesOnByAct acts point old new =
-    (w : State) → old ≡ after_acts w (take point acts) → new ≡ after_acts w (take (point + 1) acts)
+-- a world that had made the first of these acts, so many of them, makes the next one too, if there is one
+abbrev pub MakesNextAct : List (Act ℕ) → ℕ → State → State → Type 0
+MakesNextAct acts made old new =
+    (w : State) → old ≡ after_acts w (take made acts) → new ≡ after_acts w (take (made + 1) acts)
 
 -- what a crash after these acts comes to
 abbrev pub found_after : Shape → List (Act ℕ) → Evictions → ℕ → Found
@@ -105,6 +112,10 @@ found_at s acts evictions point = found_after s (take point acts) evictions poin
 -- those of crashes after the first acts, from so many of them on, up to another number
 abbrev pub found_between : Shape → List (Act ℕ) → Evictions → ℕ → ℕ → List Found
 found_between s acts evictions from to = map (found_at s acts evictions) (range_with_len from (to - from))
+
+-- those where no word is evicted
+abbrev pub found_unevicted : Shape → List (Act ℕ) → ℕ → ℕ → List Found
+found_unevicted s acts from to = found_between s acts no_word from to
 
 -- and that of a crash at a point of a script
 abbrev pub point_of : Shape → List Command → Evictions → ℕ → Found
@@ -119,6 +130,10 @@ abbrev pub points_of : Option QueueLine → List Command → Evictions → List 
 points_of None commands evictions = []
 points_of (Some queue) commands evictions = points_on (shape_by queue) commands evictions
 
+-- what is found at all points of a script
+abbrev pub found_on : Scripted → Evictions → List Found
+found_on script evictions = points_of script.queue script.commands evictions
+
 -- which points are wanted: those from one on, so many of them, or all
 abbrev pub first_of : {X : Type 0} → Option ℕ → List X → List X
 first_of None xs = xs
@@ -127,6 +142,6 @@ first_of (Some count) xs = take count xs
 abbrev pub part_of : {X : Type 0} → Part → List X → List X
 part_of part xs = first_of part.count (drop part.from xs)
 
--- those of a script that are wanted
+-- what is found at those of a script that are wanted
 abbrev pub wanted_of : Wanted → Scripted → List Found
-wanted_of wanted script = part_of wanted.part (points_of script.queue script.commands wanted.evictions)
+wanted_of wanted script = part_of wanted.part (found_on script wanted.evictions)

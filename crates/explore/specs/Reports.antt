@@ -5,7 +5,7 @@ use Rattle.words.specs.PlainQueue.{Value}
 use Rattle.words.specs.Text.{told_text}
 use Rattle.words.specs.declared.told.Told.{Told}
 use Rattle.grammar.specs.Grammar.{shape_by}
-use Rattle.explore.specs.Points.{Found, part_of, points_on}
+use Rattle.explore.specs.Points.{Found, all_found, found_of, part_of, points_on}
 use Rattle.playing.specs.Prints.{values_text}
 use Rattle.playing.specs.Stopped.{alone_on, alone_text}
 use Rattle.playing.specs.declared.answers.Alone.{Alone}
@@ -13,6 +13,8 @@ use Rattle.grammar.specs.declared.commands.Command.{Command}
 use Rattle.grammar.specs.declared.commands.QueueLine.{QueueLine}
 use Rattle.explore.specs.declared.part.Part.{Part}
 use Rattle.explore.specs.declared.part.Wanted.{Wanted}
+use Rattle.explore.specs.declared.point.Point.{Point}
+use Rattle.explore.specs.declared.sweep.Report.{Report}
 
 -- what clients are told, parted by commas
 abbrev pub later_told_text : Told → List ℕ
@@ -53,6 +55,14 @@ report_text clients number points bad =
     numbered_text clients number points
     ++ (codes "points " ++ decimal (length points) ++ codes " bad " ++ decimal bad ++ codes "\n")
 
+-- the line of a point that was found
+abbrev pub line_of : ℕ → ℕ → Point → List ℕ
+line_of clients number point = point_text clients number (found_of point)
+
+-- the lines of a report, its points numbered from here
+abbrev pub text_of_report : ℕ → ℕ → Report → List ℕ
+text_of_report clients from report = report_text clients from (all_found report.points.items) report.bad
+
 -- the lines of a part of the points, which have the numbers that they have in the whole: of those from one on, so many
 -- of them, or all
 abbrev pub lines_of_part : ℕ → Part → List Found → List ℕ
@@ -61,11 +71,22 @@ lines_of_part clients part points = numbered_text clients part.from (part_of par
 abbrev pub lines_from : ℕ → ℕ → Option ℕ → List Found → List ℕ
 lines_from clients from count points = lines_of_part clients (record { from = from; count = count }) points
 
--- the lines of the points from one on, so many of them, and of the next ones, put together are those of both
-abbrev pub AreLinesOfBoth : ℕ → List Found → ℕ → ℕ → Option ℕ → Option ℕ → Type 0
-AreLinesOfBoth clients points from first next both =
-    lines_from clients from (Some first) points ++ lines_from clients (from + first) next points
-    ≡ lines_from clients from both points
+-- the lines of all points
+abbrev pub all_lines : ℕ → List Found → List ℕ
+all_lines clients points = numbered_text clients 0 points
+
+-- of two parts that follow each other, the first from here on and each of so many points, the lines, put together, are
+-- those of one part
+abbrev pub PartsMakeOne : ℕ → List Found → ℕ → ℕ → ℕ → Type 0
+PartsMakeOne clients points from first second =
+    lines_from clients from (Some first) points ++ lines_from clients (from + first) (Some second) points
+    ≡ lines_from clients from (Some (first + second)) points
+
+-- and so it is of a part and all points that come after it
+abbrev pub PartAndRestMakeOne : ℕ → List Found → ℕ → ℕ → Type 0
+PartAndRestMakeOne clients points from first =
+    lines_from clients from (Some first) points ++ lines_from clients (from + first) None points
+    ≡ lines_from clients from None points
 
 -- the report on a part of a script's points
 abbrev pub points_text : Wanted → Option QueueLine → List Command → List ℕ

@@ -1,8 +1,8 @@
 //! What holds of parts of a report.
 
-ghost use Rattle.std.specs.Prelude.{ℕ, List, None, Some, ◌≡◌, ◌+◌};
+ghost use Rattle.std.specs.Prelude.{ℕ, List, ◌≡◌};
 ghost use Rattle.explore.specs.Points.{Found};
-ghost use Rattle.explore.specs.Reports.{lines_of_part, numbered_text, AreLinesOfBoth};
+ghost use Rattle.explore.specs.Reports.{all_lines, lines_of_part, PartAndRestMakeOne, PartsMakeOne};
 ghost use Rattle.explore.specs.declared.part.TheConstants.{WHOLE};
 
 /// Of two parts that follow each other the lines, put together, are those of the part that begins where the first does
@@ -11,9 +11,9 @@ ghost use Rattle.explore.specs.declared.part.TheConstants.{WHOLE};
 /// from point 0 on are the whole.
 pub fn parts_make_the_whole()
     ensures joined { (clients from first second : ℕ) (points : List Found)
-        → AreLinesOfBoth clients points from first (Some second) (Some (first + second)) }
+        → PartsMakeOne clients points from first second }
     ensures last { (clients from first : ℕ) (points : List Found)
-        → AreLinesOfBoth clients points from first None None }
+        → PartAndRestMakeOne clients points from first }
     ensures whole { (clients : ℕ) (points : List Found)
-        → lines_of_part clients WHOLE points ≡ numbered_text clients 0 points }
+        → lines_of_part clients WHOLE points ≡ all_lines clients points }
 {}

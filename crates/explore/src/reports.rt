@@ -1,10 +1,9 @@
 //! The reports on a script, as text.
 
-ghost use Rattle.std.specs.Prelude.{◌≡◌, ◌<◌, ◌≤◌, ◌++◌, OnOk, IfOk, IfErr, length, map, string_bytes};
+ghost use Rattle.std.specs.Prelude.{◌≡◌, ◌<◌, ◌≤◌, ◌++◌, OnOk, IfOk, IfErr, length, string_bytes};
 ghost use Rattle.words.specs.declared.limits.TheConstants.{MAX_CLIENTS};
-ghost use Rattle.explore.specs.Points.{found_of};
 ghost use Rattle.playing.specs.Prints.{values_text};
-ghost use Rattle.explore.specs.Reports.{calls_text, content_text, end_text, steps_text, told_all_text, point_text, points_text, report_text, stopped_text, most_steps as most_steps_of};
+ghost use Rattle.explore.specs.Reports.{calls_text, content_text, end_text, steps_text, told_all_text, line_of, points_text, stopped_text, text_of_report, most_steps as most_steps_of};
 
 use crate::page::{Setting, page};
 use crate::part::Wanted;
@@ -81,8 +80,7 @@ fn write_point(
     point: &Point,
 ) -> Result<(), Refusal>
     requires { clients ≤ MAX_CLIENTS }
-    ensures text { OnOk result (string_bytes text.new
-        ≡ string_bytes text.old ++ point_text clients number (found_of point.now)) }
+    ensures text { OnOk result (string_bytes text.new ≡ string_bytes text.old ++ line_of clients number point.now) }
     ensures errors { IfErr result (λ e. e ≡ Refusal.NoMemory) }
 {
     write_steps(text, number, point.steps)?;
@@ -99,8 +97,7 @@ fn report_text(
     report: &Report,
 ) -> Result<Vec<u8>, Refusal>
     requires { clients ≤ MAX_CLIENTS }
-    ensures text { IfOk result (λ text. text.items
-        ≡ report_text clients from (map found_of report.now.points.items) report.now.bad) }
+    ensures text { IfOk result (λ text. text.items ≡ text_of_report clients from report.now) }
     ensures errors { IfErr result (λ e. e ≡ Refusal.NoMemory) }
 {
     let mut text = String::new(alloc);

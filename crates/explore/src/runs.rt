@@ -2,8 +2,8 @@
 
 ghost use Rattle.std.specs.Prelude.{◌<◌, ◌↔◌, OnOk, IfErr, IsErrOf};
 ghost use Rattle.devices.specs.Devices.{IsFlushed};
-ghost use Rattle.explore.specs.Reports.{points_text, stopped_text};
-ghost use Rattle.playing.specs.Run.{Prints, PrintsBeginning, BeginsTranscript, PrintsTranscript, IsRunRefusal, NamesBadLine, WritesNothing};
+ghost use Rattle.explore.specs.Runs.{BeginsAlone, BeginsPoints, BeginsRun, PrintsAlone, PrintsPoints, PrintsRun};
+ghost use Rattle.playing.specs.Run.{IsRunRefusal, NamesBadLine, OnWriteFailed, WritesNothing};
 
 use crate::part::Wanted;
 use crate::reports::{pictured_points, points_text, stopped_text};
@@ -23,16 +23,14 @@ pub fn run<R: Reader, W: Writer>(
 ) -> Result<(), Refusal>
     requires reads { R.failures reader.old < MAX_FAILURES }
     requires writes { W.failures writer.old < MAX_FAILURES }
-    ensures printed { OnOk result
-        (PrintsTranscript (R.left reader.old) (W.written writer.old) (W.written writer.new)) }
+    ensures printed { OnOk result (PrintsRun R.Reader W.Writer reader.old writer.old writer.new) }
     ensures flushed { OnOk result (IsFlushed (W.written writer.new) (W.flushed writer.new)) }
     ensures refusals { IfErr result IsRunRefusal }
     ensures read_failed { IsErrOf result Refusal.ReadFailed ↔ (R.failures reader.old < R.failures reader.new) }
     ensures write_failed { IsErrOf result Refusal.WriteFailed ↔ (W.failures writer.old < W.failures writer.new) }
     ensures bad_line { IfErr result (NamesBadLine (R.left reader.old)) }
     ensures unwritten { IfErr result (WritesNothing (W.written writer.old) (W.written writer.new)) }
-    ensures beginning { IsErrOf result Refusal.WriteFailed
-        → BeginsTranscript (R.left reader.old) (W.written writer.old) (W.written writer.new) }
+    ensures beginning { OnWriteFailed result (BeginsRun R.Reader W.Writer reader.old writer.old writer.new) }
 {
     let script = read_script(alloc, reader)?;
     let printed = transcript(alloc, &script)?;
@@ -48,16 +46,14 @@ pub fn run_story<R: Reader, W: Writer>(
 ) -> Result<Vec<u8>, Refusal>
     requires reads { R.failures reader.old < MAX_FAILURES }
     requires writes { W.failures writer.old < MAX_FAILURES }
-    ensures printed { OnOk result
-        (PrintsTranscript (R.left reader.old) (W.written writer.old) (W.written writer.new)) }
+    ensures printed { OnOk result (PrintsRun R.Reader W.Writer reader.old writer.old writer.new) }
     ensures flushed { OnOk result (IsFlushed (W.written writer.new) (W.flushed writer.new)) }
     ensures refusals { IfErr result IsRunRefusal }
     ensures read_failed { IsErrOf result Refusal.ReadFailed ↔ (R.failures reader.old < R.failures reader.new) }
     ensures write_failed { IsErrOf result Refusal.WriteFailed ↔ (W.failures writer.old < W.failures writer.new) }
     ensures bad_line { IfErr result (NamesBadLine (R.left reader.old)) }
     ensures unwritten { IfErr result (WritesNothing (W.written writer.old) (W.written writer.new)) }
-    ensures beginning { IsErrOf result Refusal.WriteFailed
-        → BeginsTranscript (R.left reader.old) (W.written writer.old) (W.written writer.new) }
+    ensures beginning { OnWriteFailed result (BeginsRun R.Reader W.Writer reader.old writer.old writer.new) }
 {
     let script = read_script(alloc, reader)?;
     let text = transcript(alloc, &script)?;
@@ -69,8 +65,8 @@ pub fn run_story<R: Reader, W: Writer>(
     }
 }
 
-/// Reads the whole script before anything runs, and writes what a crash at each wanted point comes to: their lines as the
-/// whole report has them, and one that counts them. `watch` is told how many points are made.
+/// Reads the whole script before anything runs, and writes what a crash at each wanted point comes to: their lines as
+/// the whole report has them, and one that counts them. `watch` is told how many points are made.
 pub fn run_points<H: Threads + Sync, R: Reader, W: Writer, T: Watch>(
     rt: &H,
     alloc: Global,
@@ -81,16 +77,15 @@ pub fn run_points<H: Threads + Sync, R: Reader, W: Writer, T: Watch>(
 ) -> Result<(), Refusal>
     requires reads { R.failures reader.old < MAX_FAILURES }
     requires writes { W.failures writer.old < MAX_FAILURES }
-    ensures printed { OnOk result
-        (Prints (points_text wanted) (R.left reader.old) (W.written writer.old) (W.written writer.new)) }
+    ensures printed { OnOk result (PrintsPoints R.Reader W.Writer wanted reader.old writer.old writer.new) }
     ensures flushed { OnOk result (IsFlushed (W.written writer.new) (W.flushed writer.new)) }
     ensures refusals { IfErr result IsRunRefusal }
     ensures read_failed { IsErrOf result Refusal.ReadFailed ↔ (R.failures reader.old < R.failures reader.new) }
     ensures write_failed { IsErrOf result Refusal.WriteFailed ↔ (W.failures writer.old < W.failures writer.new) }
     ensures bad_line { IfErr result (NamesBadLine (R.left reader.old)) }
     ensures unwritten { IfErr result (WritesNothing (W.written writer.old) (W.written writer.new)) }
-    ensures beginning { IsErrOf result Refusal.WriteFailed
-        → PrintsBeginning (points_text wanted) (R.left reader.old) (W.written writer.old) (W.written writer.new) }
+    ensures beginning { OnWriteFailed result
+        (BeginsPoints R.Reader W.Writer wanted reader.old writer.old writer.new) }
 {
     let script = read_script(alloc, reader)?;
     let printed = points_text(rt, alloc, &script, wanted, watch)?;
@@ -109,16 +104,15 @@ pub fn run_page<H: Threads + Sync, R: Reader, W: Writer, T: Watch>(
 ) -> Result<Vec<u8>, Refusal>
     requires reads { R.failures reader.old < MAX_FAILURES }
     requires writes { W.failures writer.old < MAX_FAILURES }
-    ensures printed { OnOk result
-        (Prints (points_text wanted) (R.left reader.old) (W.written writer.old) (W.written writer.new)) }
+    ensures printed { OnOk result (PrintsPoints R.Reader W.Writer wanted reader.old writer.old writer.new) }
     ensures flushed { OnOk result (IsFlushed (W.written writer.new) (W.flushed writer.new)) }
     ensures refusals { IfErr result IsRunRefusal }
     ensures read_failed { IsErrOf result Refusal.ReadFailed ↔ (R.failures reader.old < R.failures reader.new) }
     ensures write_failed { IsErrOf result Refusal.WriteFailed ↔ (W.failures writer.old < W.failures writer.new) }
     ensures bad_line { IfErr result (NamesBadLine (R.left reader.old)) }
     ensures unwritten { IfErr result (WritesNothing (W.written writer.old) (W.written writer.new)) }
-    ensures beginning { IsErrOf result Refusal.WriteFailed
-        → PrintsBeginning (points_text wanted) (R.left reader.old) (W.written writer.old) (W.written writer.new) }
+    ensures beginning { OnWriteFailed result
+        (BeginsPoints R.Reader W.Writer wanted reader.old writer.old writer.new) }
 {
     let script = read_script(alloc, reader)?;
     let found = pictured_points(rt, alloc, &script, wanted, watch)?;
@@ -137,16 +131,14 @@ pub fn run_alone<R: Reader, W: Writer>(
 ) -> Result<(), Refusal>
     requires reads { R.failures reader.old < MAX_FAILURES }
     requires writes { W.failures writer.old < MAX_FAILURES }
-    ensures printed { OnOk result
-        (Prints stopped_text (R.left reader.old) (W.written writer.old) (W.written writer.new)) }
+    ensures printed { OnOk result (PrintsAlone R.Reader W.Writer reader.old writer.old writer.new) }
     ensures flushed { OnOk result (IsFlushed (W.written writer.new) (W.flushed writer.new)) }
     ensures refusals { IfErr result IsRunRefusal }
     ensures read_failed { IsErrOf result Refusal.ReadFailed ↔ (R.failures reader.old < R.failures reader.new) }
     ensures write_failed { IsErrOf result Refusal.WriteFailed ↔ (W.failures writer.old < W.failures writer.new) }
     ensures bad_line { IfErr result (NamesBadLine (R.left reader.old)) }
     ensures unwritten { IfErr result (WritesNothing (W.written writer.old) (W.written writer.new)) }
-    ensures beginning { IsErrOf result Refusal.WriteFailed
-        → PrintsBeginning stopped_text (R.left reader.old) (W.written writer.old) (W.written writer.new) }
+    ensures beginning { OnWriteFailed result (BeginsAlone R.Reader W.Writer reader.old writer.old writer.new) }
 {
     let script = read_script(alloc, reader)?;
     let printed = stopped_text(alloc, &script)?;

@@ -99,8 +99,8 @@ fn was_right(
         && seen.order.entries.as_slice() == order.entries.as_slice()
 }
 
-/// Whether the order explains all that happened once a world that stops now is ready again and told this, and its replay
-/// leaves this content.
+/// Whether the order explains all that happened once a world that stops now is ready again and told this, and its
+/// replay leaves this content.
 fn is_right(
     alloc: Global,
     world: &World,

@@ -1,9 +1,9 @@
 //! A crash at every point of a script.
 
-ghost use Rattle.std.specs.Prelude.{◌≡◌, ◌+◌, ◌-◌, ◌*◌, ◌<◌, ◌≤◌, ◌++◌, min, OnOk, IfOk, IfErr, length, map, not, count_by};
+ghost use Rattle.std.specs.Prelude.{◌≡◌, ◌+◌, ◌-◌, ◌*◌, ◌<◌, ◌≤◌, ◌++◌, min, OnOk, IfOk, IfErr, length, not, count_by};
 ghost use Rattle.std.specs.List.{flat_map};
-ghost use Rattle.explore.specs.Pieces.{found_in_piece, found_up_to};
-ghost use Rattle.explore.specs.Points.{found_of, points_of, wanted_of};
+ghost use Rattle.explore.specs.Pieces.{found_in_piece, found_in_range};
+ghost use Rattle.explore.specs.Points.{all_found, found_on, wanted_of};
 
 use crate::evictions::Evictions;
 use crate::part::{WHOLE, Wanted};
@@ -70,7 +70,7 @@ fn piece_points(
     requires some { from + piece * PIECE < to }
     requires within { to ≤ length schedule.now.acts.items + 1 }
     ensures points { IfOk result
-        (λ points. map found_of points.items ≡ found_in_piece schedule.now from to piece) }
+        (λ points. all_found points.items ≡ found_in_piece schedule.now from to piece) }
     ensures errors { IfErr result (λ e. e ≡ Refusal.NoMemory) }
 {
     let first = from + piece * PIECE;
@@ -104,7 +104,7 @@ fn some_points<R: Threads + Sync>(
 ) -> Result<Vec<Point>, Refusal>
     requires ordered { from ≤ to }
     requires within { to ≤ length schedule.now.acts.items + 1 }
-    ensures points { IfOk result (λ points. map found_of points.items ≡ found_up_to schedule.now from to) }
+    ensures points { IfOk result (λ points. all_found points.items ≡ found_in_range schedule.now from to) }
     ensures errors { IfErr result (λ e. e ≡ Refusal.NoMemory) }
 {
     let pieces = (to - from).div_ceil(PIECE);
@@ -116,7 +116,7 @@ fn some_points<R: Threads + Sync>(
             |piece: usize| -> Result<Vec<Point>, Refusal>
                 requires { (from + piece * PIECE < to) × (to ≤ length schedule.now.acts.items + 1) }
                 ensures points { IfOk result
-                    (λ points. map found_of points.items ≡ found_in_piece schedule.entry.now from to piece) }
+                    (λ points. all_found points.items ≡ found_in_piece schedule.entry.now from to piece) }
                 ensures errors { IfErr result (λ e. e ≡ Refusal.NoMemory) }
             { piece_points(alloc, schedule, from, to, piece) },
         )
@@ -147,7 +147,7 @@ fn all_points<R: Threads + Sync, W: Watch>(
 ) -> Result<Vec<Point>, Refusal>
     requires ordered { from ≤ to }
     requires within { to ≤ length schedule.now.acts.items + 1 }
-    ensures points { IfOk result (λ points. map found_of points.items ≡ found_up_to schedule.now from to) }
+    ensures points { IfOk result (λ points. all_found points.items ≡ found_in_range schedule.now from to) }
     ensures errors { IfErr result (λ e. e ≡ Refusal.NoMemory) }
 {
     let count = to - from;
@@ -181,8 +181,7 @@ pub fn points<R: Threads + Sync>(
     script: &Script,
     evictions: Evictions,
 ) -> Result<Report, Refusal>
-    ensures points { IfOk result (λ report. map found_of report.points.items
-        ≡ points_of script.now.queue script.now.commands evictions) }
+    ensures points { IfOk result (λ report. all_found report.points.items ≡ found_on script.now evictions) }
     ensures bad { IfOk result (λ report. report.bad ≡ 0) }
     ensures errors { IfErr result (λ e. e ≡ Refusal.NoMemory) }
 {
@@ -201,8 +200,7 @@ pub fn watched_points<R: Threads + Sync, W: Watch>(
     wanted: Wanted,
     watch: &mut W,
 ) -> Result<Report, Refusal>
-    ensures points { IfOk result (λ report. map found_of report.points.items
-        ≡ wanted_of wanted script.now) }
+    ensures points { IfOk result (λ report. all_found report.points.items ≡ wanted_of wanted script.now) }
     ensures bad { IfOk result (λ report. report.bad ≡ 0) }
     ensures errors { IfErr result (λ e. e ≡ Refusal.NoMemory) }
 {

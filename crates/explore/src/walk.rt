@@ -1,8 +1,8 @@
 //! Points that one worker makes, one after another.
 
-ghost use Rattle.std.specs.Prelude.{◌≡◌, ◌<◌, ◌≤◌, ◌+◌, ◌-◌, ◌++◌, ◌∷◌, [], OnOk, IfOk, IfErr, length, map};
+ghost use Rattle.std.specs.Prelude.{◌≡◌, ◌<◌, ◌≤◌, ◌+◌, ◌-◌, ◌++◌, ◌∷◌, [], OnOk, IfOk, IfErr, length};
 ghost use Rattle.interleave.specs.Holds.{Holds};
-ghost use Rattle.explore.specs.Points.{found_between, found_of, found_stopped, GoesOnByAct};
+ghost use Rattle.explore.specs.Points.{all_found, found_between, found_stopped, found_unevicted, AddsFound, MakesNextAct};
 
 use crate::evictions::Evictions;
 use crate::point::{Point, crash};
@@ -35,8 +35,7 @@ fn add_stop(
 ) -> Result<(), Refusal>
     requires holds { Holds world.now.now }
     requires size { length copy.old.words.kept ≡ length world.now.now.words.kept }
-    ensures points { OnOk result (map found_of points.new.items
-        ≡ map found_of points.old.items ++ found_stopped world.now.now ∷ []) }
+    ensures points { OnOk result (AddsFound points.old.items points.new.items (found_stopped world.now.now)) }
     ensures size { length copy.new.words.kept ≡ length copy.old.words.kept }
     ensures errors { IfErr result (λ e. e ≡ Refusal.NoMemory) }
 {
@@ -46,7 +45,7 @@ fn add_stop(
 
 /// Makes the act at this place, if there is one.
 fn go_on(world: &mut World, acts: &[Act], point: usize) -> Result<(), Refusal>
-    ensures world { OnOk result (GoesOnByAct acts.now point world.old.now world.new.now) }
+    ensures world { OnOk result (MakesNextAct acts.now point world.old.now world.new.now) }
     ensures errors { IfErr result (λ e. e ≡ Refusal.NoMemory) }
 {
     if point < acts.len() {
@@ -66,8 +65,7 @@ pub(crate) fn stopped_points(
 ) -> Result<Vec<Point>, Refusal>
     requires ordered { from < to }
     requires within { to ≤ length acts.now + 1 }
-    ensures points { IfOk result
-        (λ points. map found_of points.items ≡ found_between layout acts.now Evictions.None from to) }
+    ensures points { IfOk result (λ points. all_found points.items ≡ found_unevicted layout acts.now from to) }
     ensures errors { IfErr result (λ e. e ≡ Refusal.NoMemory) }
 {
     let mut world = World::make(alloc, layout)?;
@@ -105,7 +103,7 @@ pub(crate) fn evicted_points(
     requires ordered { from < to }
     requires within { to ≤ length acts.now + 1 }
     ensures points { IfOk result
-        (λ points. map found_of points.items ≡ found_between layout acts.now evictions from to) }
+        (λ points. all_found points.items ≡ found_between layout acts.now evictions from to) }
     ensures errors { IfErr result (λ e. e ≡ Refusal.NoMemory) }
 {
     let mut spare = Spare::none();

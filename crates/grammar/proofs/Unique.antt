@@ -12,7 +12,8 @@ use Rattle.words.specs.Text.{value_text}
 use Rattle.words.specs.declared.call.Client.{Client}
 use Rattle.words.specs.declared.call.Kind.{Kind}
 use Rattle.grammar.specs.Grammar.{kind_word, queue_words, command_words, IsServedQueue, IsServed}
-use Rattle.grammar.specs.Script.{Says}
+use Rattle.grammar.specs.Script.{Says, SaysScript}
+use Rattle.grammar.specs.Scripted.{Scripted}
 use Rattle.grammar.specs.declared.commands.Command.{Command}
 use Rattle.grammar.specs.declared.commands.Command.TheVariants.{Enq, NumberedEnq, Deq, NumberedDeq, Step, End, Evict}
 use Rattle.grammar.specs.declared.commands.Command.TheVariants.{Crash, Recover, RecoverBy, Content, Order, Again}
@@ -143,8 +144,8 @@ same_queue q r sq sr e =
     let kind : q.kind ≡ r.kind = same_kind q.kind r.kind words in
     sym (queue_back q sq) ∙ (ap (λ k. queue_of k (queue_words q)) kind ∙ ap (queue_of r.kind) e) ∙ queue_back r sr
 
--- so lines say at most one script
-pub same_script : (lines : List (List ℕ)) (q r : Option QueueLine) (cs ds : List Command) → Says lines q cs → Says lines r ds → (q ≡ r) × (cs ≡ ds)
+-- so lines say at most one queue and at most one list of commands
+same_script : (lines : List (List ℕ)) (q r : Option QueueLine) (cs ds : List Command) → Says lines q cs → Says lines r ds → (q ≡ r) × (cs ≡ ds)
 same_script lines None None cs ds a b = (refl, a.queue_first refl ∙ sym (b.queue_first refl))
 same_script lines None (Some r) cs ds a b =
     let none : map command_words cs ≡ [] = ap (map command_words) (a.queue_first refl) in
@@ -157,3 +158,10 @@ same_script lines (Some q) None cs ds a b =
 same_script lines (Some q) (Some r) cs ds a b =
     let both : queue_words q ∷ map command_words cs ≡ queue_words r ∷ map command_words ds = sym a.words ∙ b.words in
     (ap Some (same_queue q r a.queue_served b.queue_served (cc)), same_commands cs ds a.commands_served b.commands_served (cc))
+
+-- and at most one script
+pub one_script : (lines : List (List ℕ)) (one other : Scripted) → SaysScript lines one → SaysScript lines other → one ≡ other
+one_script lines one other a b =
+    let same : (one.queue ≡ other.queue) × (one.commands ≡ other.commands) =
+    same_script lines one.queue other.queue one.commands other.commands a b in
+    ap (λ q. record one { queue = q }) same.0 ∙ ap (λ cs. record other { commands = cs }) same.1

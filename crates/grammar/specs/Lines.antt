@@ -14,6 +14,10 @@ lines_of text = slice_split (λ byte. byte == 10) (without_last_newline text)
 abbrev pub words_of : List ℕ → List (List ℕ)
 words_of line = slice_split (λ byte. byte == 32) line
 
+-- a line is this word alone
+abbrev pub IsOneWord : List ℕ → List ℕ → Type 0
+IsOneWord line word = words_of line ≡ word ∷ []
+
 -- a line begins with this word, and has the words of the rest behind it; or nothing stands behind such a word
 abbrev pub BeginsWith : List ℕ → List ℕ → List ℕ → Type 0
 BeginsWith line word rest = words_of line ≡ word ∷ words_of rest

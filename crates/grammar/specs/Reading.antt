@@ -1,5 +1,7 @@
 -- What reading a text comes to.
-use Rattle.std.specs.Prelude.{◌≡◌, ◌≢◌, Option, MatchOption}
+use Rattle.std.specs.Prelude.{◌≡◌, ◌≢◌, ℕ, List, [], ◌∷◌, Option, MatchOption, decimal}
+use Rattle.words.specs.PlainQueue.{Value}
+use Rattle.words.specs.Text.{value_text}
 
 -- a value was read: the words are its spelling, and it is one of those that are wanted; or none was, and the words are
 -- the spelling of none that is. So it is of two values, and of three
@@ -17,6 +19,13 @@ abbrev pub Reads₃ : {A B C W : Type 0} → (A → B → C → W) → (A → Ty
 Reads₃ {A = A} {B = B} {C = C} spelling first second third words result =
     MatchOption result ((a : A) (b : B) (c : C) → first a → second b → third c → words ≢ spelling a b c)
     (λ r. (words ≡ spelling r.0 r.1 r.2) × first r.0 × second r.1 × third r.2)
+
+-- how a number and a value are spelled, and two numbers and a value
+abbrev pub number_and_value_words : ℕ → Value → List (List ℕ)
+number_and_value_words n value = decimal n ∷ value_text value ∷ []
+
+abbrev pub numbers_and_value_words : ℕ → ℕ → Value → List (List ℕ)
+numbers_and_value_words m n value = decimal m ∷ number_and_value_words n value
 
 -- nothing of this form is said, whatever stands in its one place, or in its two or three
 abbrev pub SaysNone : {A S : Type 0} → (S → Type 0) → (A → S) → Type 0

@@ -1,8 +1,14 @@
 -- The lines in three groups.
 use Rattle.std.specs.Prelude.{ℕ, List}
-use Rattle.grammar.specs.Grammar.{SaysCommand}
+use Rattle.words.specs.declared.call.Kind.{Kind}
+use Rattle.grammar.specs.Grammar.{SaysCommand, kind_word}
+use Rattle.grammar.specs.Lines.{NothingFollows}
 use Rattle.grammar.specs.Reading.{SaysNone, SaysNone₂, SaysNone₃}
 use Rattle.grammar.specs.declared.commands.Command.TheVariants.{Enq, NumberedEnq, Deq, NumberedDeq, Step, End, Evict, Crash, Recover, RecoverBy, Content, Order, Again}
+
+-- where a text begins with the word of a kind, nothing follows it
+abbrev pub NothingFollowsKind : List ℕ → Type 0
+NothingFollowsKind text = (kind : Kind) → NothingFollows text (kind_word kind)
 
 -- a line starts no call, and goes on with none
 pub record IsNoCall (line : List ℕ) : Type 0 where

@@ -4,6 +4,7 @@ use Rattle.words.specs.declared.refusal.Refusal.{Refusal}
 use Rattle.words.specs.declared.refusal.Refusal.TheVariants.{BadLine, NoMemory}
 use Rattle.grammar.specs.Lines.{words_of, is_statement}
 use Rattle.grammar.specs.Grammar.{queue_words, command_words, IsServedQueue, IsServed, is_on}
+use Rattle.grammar.specs.Scripted.{Scripted}
 use Rattle.grammar.specs.declared.limits.TheConstants.{MAX_LINES}
 use Rattle.grammar.specs.declared.commands.Command.{Command}
 use Rattle.grammar.specs.declared.commands.QueueLine.{QueueLine}
@@ -22,6 +23,10 @@ pub record Says (lines : List (List ℕ)) (queue : Option QueueLine) (commands :
   pub queue_served : IfSome queue IsServedQueue
   pub commands_served : All IsServed commands
   pub of_kind : IfSome queue (λ q. All (λ command. is_on q.kind command ≡ true) commands)
+
+-- the same of a script as one value
+abbrev pub SaysScript : List (List ℕ) → Scripted → Type 0
+SaysScript lines script = Says lines script.queue script.commands
 
 -- the lines before this one say a script, and with it they say none
 pub record IsFirstBad (lines : List (List ℕ)) (number : ℕ) : Type 0 where

@@ -1,12 +1,11 @@
 //! What holds of every script.
 
-ghost use Rattle.std.specs.Prelude.{◌≡◌, ℕ, List, Option};
-ghost use Rattle.grammar.specs.Script.{Says};
-ghost use Rattle.grammar.specs.declared.commands.Command.{Command};
-ghost use Rattle.grammar.specs.declared.commands.QueueLine.{QueueLine};
+ghost use Rattle.std.specs.Prelude.{◌≡◌, ℕ, List};
+ghost use Rattle.grammar.specs.Script.{SaysScript};
+ghost use Rattle.grammar.specs.Scripted.{Scripted};
 
 /// Lines say at most one script.
 pub fn one_script_a_text()
-    ensures { (lines : List (List ℕ)) (q r : Option QueueLine) (cs ds : List Command)
-        → Says lines q cs → Says lines r ds → (q ≡ r) × (cs ≡ ds) }
+    ensures { (lines : List (List ℕ)) (one other : Scripted)
+        → SaysScript lines one → SaysScript lines other → one ≡ other }
 {}

@@ -3,9 +3,9 @@
 ghost use Rattle.std.specs.Prelude.{◌≡◌, ◌≢◌, ◌↔◌, ◌==◌, ◌<◌, ◌^◌, ℕ, ◌∷◌, [], MatchOption, IsTrue, decimal, position, false};
 ghost use Rattle.words.specs.PlainQueue.{Value, FitsValue};
 ghost use Rattle.words.specs.Text.{value_text};
-ghost use Rattle.grammar.specs.Lines.{words_of, BeginsWith, HasPlainStart, NothingFollows};
+ghost use Rattle.grammar.specs.Lines.{words_of, BeginsWith, HasPlainStart, IsOneWord, NothingFollows};
 ghost use Rattle.grammar.specs.Limits.{IsWithin};
-ghost use Rattle.grammar.specs.Reading.{Reads, Reads₂, Reads₃};
+ghost use Rattle.grammar.specs.Reading.{number_and_value_words, numbers_and_value_words, Reads, Reads₂, Reads₃};
 
 use crate::limits::Limits;
 use std::str;
@@ -70,7 +70,7 @@ fn first_space(text: &[u8]) -> Option<usize>
 
 /// The first word of a text, and what follows the space after it, if it has one. A word may be empty.
 pub fn first_word(text: &[u8]) -> (&[u8], Option<&[u8]>)
-    ensures { MatchOption result.1 (words_of text.now ≡ result.0.now ∷ [])
+    ensures { MatchOption result.1 (IsOneWord text.now result.0.now)
         (λ rest. BeginsWith text.now result.0.now rest.now) }
 {
     match first_space(text) {
@@ -90,7 +90,7 @@ pub fn after_name<'a>(line: &'a [u8], name: &[u8]) -> Option<&'a [u8]>
 
 /// Whether a line is a name alone.
 pub fn is_name(line: &[u8], name: &[u8]) -> bool
-    ensures { IsTrue result ↔ (words_of line.now ≡ name.now ∷ []) }
+    ensures { IsTrue result ↔ IsOneWord line.now name.now }
 {
     match first_word(line) {
         (word, None) => word == name,
@@ -122,8 +122,7 @@ pub fn one_value(text: &[u8]) -> Option<Value>
 
 /// The number and the value that are all of a text.
 pub fn number_and_value(text: &[u8], limits: Limits) -> Option<(u64, Value)>
-    ensures { Reads₂ (λ n v. decimal n ∷ value_text v ∷ []) (IsWithin limits) FitsValue
-        (words_of text.now) result }
+    ensures { Reads₂ number_and_value_words (IsWithin limits) FitsValue (words_of text.now) result }
 {
     let (word, rest) = first_word(text);
     let n = number_within(word, limits)?;
@@ -144,8 +143,8 @@ pub fn two_numbers(text: &[u8], first: Limits, second: Limits) -> Option<(u64, u
 
 /// The two numbers and the value that are all of a text.
 pub fn numbers_and_value(text: &[u8], first: Limits, second: Limits) -> Option<(u64, u64, Value)>
-    ensures { Reads₃ (λ m n v. decimal m ∷ decimal n ∷ value_text v ∷ [])
-        (IsWithin first) (IsWithin second) FitsValue (words_of text.now) result }
+    ensures { Reads₃ numbers_and_value_words (IsWithin first) (IsWithin second) FitsValue
+        (words_of text.now) result }
 {
     let (word, rest) = first_word(text);
     let m = number_within(word, first)?;

@@ -3,7 +3,7 @@
 ghost use Rattle.std.specs.Prelude.{MatchOption, ◌≡◌, Ok, IfOk, IfErr, Option, None, Some, true, false};
 ghost use Rattle.grammar.specs.Lines.{lines_of};
 ghost use Rattle.grammar.specs.Grammar.{SaysNoneOn, SaysOn};
-ghost use Rattle.grammar.specs.Script.{Says, IsWhyUnread, Continues, EndsBadly};
+ghost use Rattle.grammar.specs.Script.{SaysScript, IsWhyUnread, Continues, EndsBadly};
 
 use crate::commands::{Command, QueueLine};
 use crate::limits::MAX_LINES;
@@ -55,7 +55,7 @@ fn add_line(
 /// The script that a text says. It is refused where memory is (NoMemory), and else where a line is not in
 /// the grammar, or is past the [`MAX_LINES`]th: BadLine, with the number of the first such line.
 pub fn parse_script(alloc: Global, text: &[u8]) -> Result<Script, Refusal>
-    ensures script { IfOk result (λ script. Says (lines_of text.now) script.queue script.commands) }
+    ensures script { IfOk result (SaysScript (lines_of text.now)) }
     ensures errors { IfErr result (IsWhyUnread (lines_of text.now)) }
 {
     let mut queue = None;

@@ -2,11 +2,10 @@
 
 ghost use Rattle.std.specs.Prelude.{◌≡◌, MatchOption};
 ghost use Rattle.words.specs.declared.call.Client.{Client};
-ghost use Rattle.words.specs.declared.call.Kind.{Kind};
-ghost use Rattle.grammar.specs.Lines.{BeginsWith, NothingFollows};
+ghost use Rattle.grammar.specs.Lines.{BeginsWith};
 ghost use Rattle.grammar.specs.Grammar.{SaysQueue, SaysCommand, kind_word, is_on, is_shown};
 ghost use Rattle.grammar.specs.Reading.{SaysNone, SaysNone₂, SaysNone₃};
-ghost use Rattle.grammar.specs.Rows.{IsNoCall, IsNoMemoryLine, IsNoCrashLine};
+ghost use Rattle.grammar.specs.Rows.{IsNoCall, IsNoMemoryLine, IsNoCrashLine, NothingFollowsKind};
 ghost use Rattle.grammar.specs.declared.commands.Command.{Command};
 ghost use Rattle.grammar.specs.declared.commands.QueueLine.{QueueLine};
 
@@ -19,7 +18,7 @@ use words::{Client, Kind};
 
 /// The kind of a queue, and what follows it.
 pub fn kind(text: &[u8]) -> Option<(Kind, &[u8])>
-    ensures { MatchOption result ((kind : Kind) → NothingFollows text.now (kind_word kind))
+    ensures { MatchOption result (NothingFollowsKind text.now)
         (λ r. BeginsWith text.now (kind_word r.0) r.1.now) }
 {
     if let Some(rest) = after_name(text, b"durable") {

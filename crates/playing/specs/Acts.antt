@@ -5,8 +5,8 @@ use Rattle.words.specs.declared.call.Call.TheVariants.{Enq as enq_call, Deq as d
 use Rattle.arena.specs.Shape.{Shape}
 use Rattle.protocol.specs.declared.acts.Act.{Act}
 use Rattle.protocol.specs.declared.acts.Act.TheVariants.{Start, Step as step_act, Evict as evict_act, Crash as crash_act, Recover as recover_act}
-use Rattle.interleave.specs.State.{State, new_world, after_act, is_accepted, most_to_ready}
-use Rattle.playing.specs.Play.{most_alone}
+use Rattle.interleave.specs.State.{State, new_world, after_act, after_acts, is_accepted, most_to_ready}
+use Rattle.playing.specs.Play.{after_commands, most_alone, new_play}
 use Rattle.grammar.specs.declared.commands.Command.{Command}
 use Rattle.grammar.specs.declared.commands.Command.TheVariants.{Enq, NumberedEnq, Deq, NumberedDeq, Step, End, Evict, Crash, Recover, RecoverBy, Content, Order, Again}
 
@@ -29,6 +29,14 @@ attempts_of s Again = []
 -- the acts that a list of commands attempts, one command after another
 abbrev pub attempts_of_all : Shape → List Command → List (Act ℕ)
 attempts_of_all s commands = flat_map (attempts_of s) commands
+
+-- the world that a transcript follows: a new one, on which the commands were followed; and one on which all that they
+-- attempt was attempted
+abbrev pub followed_world : Shape → List Command → State
+followed_world s commands = (after_commands (new_play s) commands).world
+
+abbrev pub attempted_world : Shape → List Command → State
+attempted_world s commands = after_acts (new_world s) (attempts_of_all s commands)
 
 -- which of the acts are accepted, one attempted after another
 abbrev pub accepted_of : State → List (Act ℕ) → List (Act ℕ)

@@ -1,5 +1,5 @@
 -- A world that follows commands.
-use Rattle.std.specs.Prelude.{ℕ, Bool, false, true, zero, suc, List, [], ◌∷◌, Option, Some, None, Result, Ok, Err, replicate, slice_set}
+use Rattle.std.specs.Prelude.{◌≡◌, ℕ, Bool, false, true, zero, suc, List, [], ◌∷◌, Option, Some, None, Result, Ok, Err, replicate, slice_set}
 use Rattle.words.specs.declared.call.Call.{Call}
 use Rattle.words.specs.declared.call.Call.TheVariants.{Enq as enq_call, Deq as deq_call}
 use Rattle.words.specs.declared.call.Client.{Client}
@@ -71,6 +71,10 @@ after_recovery zero play = play
 after_recovery (suc most) play =
     recover_then (recover_result false play.world)
     (after_recovery most (play_after_recovery_step play)) (play_after_recovery_step play) (λ refusal. play)
+
+-- recovery ends at its next step, however many more it was to make, and this is what it leaves
+abbrev pub EndsAtNextStep : Play → Play → Type 0
+EndsAtNextStep old new = (more : ℕ) → new ≡ after_recovery (suc more) old
 
 -- no recovery needs more steps than these
 unfoldable pub most_recovery : State → ℕ

@@ -30,10 +30,14 @@ answer_alone point steps (suc more) w client =
     answer_or point (suc steps) client (step_result false w client)
     (answer_alone point (suc steps) more (after_step false w client) client)
 
+-- what comes of a client's call that stopped in a world after so many acts, and goes on alone
+abbrev pub answer_in : ℕ → State → Client → List Alone
+answer_in point w client = answer_alone point 0 most_alone w client
+
 -- of each client's in turn
 abbrev pub answers_in : ℕ → State → List Alone
 answers_in point w =
-    flat_map (λ number. answer_alone point 0 most_alone w (record { 0 = number })) (range_with_len 0 w.shape.clients)
+    flat_map (λ number. answer_in point w (record { 0 = number })) (range_with_len 0 w.shape.clients)
 
 -- after these acts, and after the first of them, so many
 abbrev pub alone_after : Shape → List (Act ℕ) → ℕ → List Alone

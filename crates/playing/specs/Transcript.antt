@@ -70,6 +70,10 @@ recovery_lines (suc most) play =
     (recovery_lines most (play_after_recovery_step play)) (ready_lines (play_after_recovery_step play))
     (λ refusal. refused_line refusal ∷ [])
 
+-- recovery ends at its next step, however many more it was to make, and the lines of that are added
+abbrev pub AddsLastLines : Play → List Line → List Line → Type 0
+AddsLastLines play before after = (more : ℕ) → after ≡ before ++ recovery_lines (suc more) play
+
 -- the call that an event begins, with this reply
 abbrev pub call_in_order : Option Event → Reply → Option Ordered
 call_in_order (Some (call_event client number call)) reply =

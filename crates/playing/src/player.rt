@@ -1,10 +1,10 @@
 //! A world that follows a script.
 
-ghost use Rattle.std.specs.Prelude.{◌≡◌, ◌<◌, ◌≤◌, ◌++◌, ◌∷◌, [], ℕ, suc, Ok, IfOk, IfErr, IsErrOf, OnErr, OnOk, false, true};
+ghost use Rattle.std.specs.Prelude.{◌≡◌, ◌<◌, ◌≤◌, ◌++◌, ◌∷◌, [], Ok, IfOk, IfErr, IsErrOf, OnErr, OnOk, false, true};
 ghost use Rattle.grammar.specs.Grammar.{is_shown};
 ghost use Rattle.interleave.specs.State.{recover_result, steps_to_ready};
-ghost use Rattle.playing.specs.Play.{most_alone, most_recovery, new_play, play_after_start, after_steps, after_eviction, play_after_crash, play_after_recovery_step, after_recovery, after_command};
-ghost use Rattle.playing.specs.Transcript.{start_lines, step_lines, ready_lines, recovery_lines, command_lines};
+ghost use Rattle.playing.specs.Play.{most_alone, most_recovery, new_play, play_after_start, after_steps, after_eviction, play_after_crash, play_after_recovery_step, after_recovery, after_command, EndsAtNextStep};
+ghost use Rattle.playing.specs.Transcript.{start_lines, step_lines, ready_lines, recovery_lines, command_lines, AddsLastLines};
 
 use crate::entries::named_call;
 use crate::lines::{Line, Values, add, add_refused};
@@ -176,9 +176,8 @@ impl Player {
         ensures few { result ≡ Ok false → steps_to_ready self.old.world ≤ most_recovery self.old.world }
         ensures falls { result ≡ Ok false → steps_to_ready self.new.world < steps_to_ready self.old.world }
         ensures more { result ≡ Ok false → 0 < steps_to_ready self.new.world }
-        ensures play { result ≡ Ok true → (more : ℕ) → self.new ≡ after_recovery (suc more) self.old }
-        ensures lines { result ≡ Ok true → (more : ℕ)
-            → lines.new.items ≡ lines.old.items ++ recovery_lines (suc more) self.old }
+        ensures play { result ≡ Ok true → EndsAtNextStep self.old self.new }
+        ensures lines { result ≡ Ok true → AddsLastLines self.old lines.old.items lines.new.items }
         ensures errors { IfErr result (λ e. e ≡ Refusal.NoMemory) }
     {
         match self.world.recover_step() {

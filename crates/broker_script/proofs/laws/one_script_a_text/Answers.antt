@@ -1,5 +1,5 @@
-use Rattle.broker_script.proofs.Scripts.{same_script}
+use Rattle.broker_script.proofs.Scripts.{one_script}
 use Rattle.broker_script.proofs.laws.one_script_a_text.Goals as goal
 
 pub returns : goal.returns
-returns c = same_script
+returns c = one_script

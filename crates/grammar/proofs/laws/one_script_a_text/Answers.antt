@@ -1,5 +1,5 @@
-use Rattle.grammar.proofs.Unique.{same_script}
+use Rattle.grammar.proofs.Unique.{one_script}
 use Rattle.grammar.proofs.laws.one_script_a_text.Goals as goal
 
 pub returns : goal.returns
-returns c = same_script
+returns c = one_script
