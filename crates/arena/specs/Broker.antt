@@ -11,6 +11,7 @@ use Rattle.arena.specs.declared.broker.BrokerPlace.TheVariants.{Clients, Records
 abbrev pub block_size_of : ℕ → ℕ → ℕ
 block_size_of clients records = 9 + 2 * clients + 11 * (clients * records)
 
+-- the same of a broker with these counts
 abbrev pub block_len : Counts → ℕ
 block_len c = block_size_of c.clients c.records
 

@@ -28,11 +28,11 @@ pub const BLOCKS_FROM: usize = HEAD_WORDS + SLOTS * DIRECTORY_WORDS;
 pub const MAX_BROKER_WORDS: usize = BLOCKS_FROM + SLOTS * MAX_LAYOUT_WORDS;
 
 /// A slot of a broker, from 0 to 7.
-#[derive(Clone, Copy, Debug, PartialEq, Eq, PartialOrd, Ord, Hash)]
+#[derive(Clone, Copy, Debug, PartialEq, Eq, PartialOrd, Ord)]
 pub struct SlotId(pub u8);
 
 /// A place of a broker's layout: one word, by what it is for.
-#[derive(Clone, Copy, Debug, PartialEq, Eq, Hash)]
+#[derive(Clone, Copy, Debug, PartialEq, Eq)]
 pub enum BrokerPlace {
     /// How many clients each queue has. It never changes.
     Clients,

@@ -15,7 +15,7 @@ pub const NAME_BYTES: usize = 16;
 const WORD_BYTES: usize = 8;
 
 /// The name of a queue: 1 to 16 bytes of `a-z`, `0-9`, `_` and `-`.
-#[derive(Clone, Copy, Debug, PartialEq, Eq, Hash)]
+#[derive(Clone, Copy, Debug, PartialEq, Eq)]
 pub struct Name {
     /// The bytes, and zeros behind them.
     row: [u8; NAME_BYTES],

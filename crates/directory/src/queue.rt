@@ -8,7 +8,7 @@ use arena::{DURABLE_QUEUE, LOG_QUEUE, SLOTS};
 use words::Kind;
 
 /// A queue by its name, and its kind.
-#[derive(Clone, Copy, Debug, PartialEq, Eq, Hash)]
+#[derive(Clone, Copy, Debug, PartialEq, Eq)]
 pub struct Queue {
     pub name: Name,
     pub kind: Kind,

@@ -23,7 +23,7 @@ use stepper::{
 use words::{Call, Kind, NodeId, Reply};
 
 /// A call under way, by the point where it waits.
-#[derive(Clone, Copy, Debug, PartialEq, Eq, Hash)]
+#[derive(Clone, Copy, Debug, PartialEq, Eq)]
 pub enum Op {
     PrepareStore(PrepareStore),
     PrepareFlush(PrepareFlush),

@@ -21,14 +21,14 @@ queue_from events base order taken from to = drop taken base ++ values_between e
 abbrev pub queue_at : List Event → List Value → List Entry → Fronts → ℕ → List Value
 queue_at events base order fronts to = queue_from events base order fronts.base fronts.entry to
 
--- this is the first value that the entries from one place up to another put into the queue, if they put one; those from
--- `after` on put the rest
+-- this is the first value that the entries from one place up to another put into the queue, and those from `after` on
+-- put the rest; with no value, those from `after` on put what all of them do
 abbrev pub IsFirstPut : List Event → List Entry → ℕ → ℕ → Option Value → ℕ → Type 0
 IsFirstPut events order from to value after =
     values_between events order from to ≡ option_to_list value ++ values_between events order after to
 
--- this is the first value that the queue holds before the entry at `to`, if it holds one; past it the front stands at
--- `after`
+-- this is the first value that the queue holds before the entry at `to`, and past it the front stands at `after`; with
+-- no value, what the queue holds is the same from either front
 abbrev pub IsFirstHeld : List Event → List Value → List Entry → Fronts → ℕ → Option Value → Fronts → Type 0
 IsFirstHeld events base order fronts to value after =
     queue_at events base order fronts to ≡ option_to_list value ++ queue_at events base order after to

@@ -4,7 +4,7 @@ use std::fmt;
 use words::Refusal;
 
 /// Why bytes are not read as a journal.
-#[derive(Clone, Copy, Debug, PartialEq, Eq, Hash)]
+#[derive(Clone, Copy, Debug, PartialEq, Eq)]
 pub enum Fault {
     /// What is wrong with the head, as an image is refused: BadMagic, Truncated or BadCount. Or memory is refused,
     /// NoMemory.

@@ -56,7 +56,8 @@ IsSomeJournal j = (key base : List ℕ) × (batches : List Batch) × (count : �
 abbrev pub Saying : Type 1
 Saying = (key base : List ℕ) → List Batch → ℕ → OnDevice → Type 0
 
--- so it is of each journal; of each whose device has not failed; of each whose device has
+-- so it is of each journal (`IsOf`, in every law below); of each whose device has not failed (`failed` is false); of each
+-- whose device has
 abbrev pub IsSoOfEach : Saying → Type 0
 IsSoOfEach IsSo =
     (key base : List ℕ) (batches : List Batch) (count : ℕ) (j : OnDevice)

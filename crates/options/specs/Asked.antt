@@ -89,12 +89,12 @@ pub record Asks (command : Option Text) (given : Text → Option Text) (o : Opti
   pub mode : IsModeOf command given o.mode
 
 -- the command that a parse met asks this, with what its options were given
-abbrev pub MetAsks : Option (Text × List Row) → Options → Type 0
-MetAsks met o = Asks (name_in met) (values_in met) o
+abbrev pub CommandAsks : Option (Text × List Row) → Options → Type 0
+CommandAsks met o = Asks (name_in met) (values_in met) o
 
 -- what its options were given fits
-abbrev pub MetFits : Option (Text × List Row) → Type 0
-MetFits met = AllFit (name_in met) (values_in met)
+abbrev pub CommandFits : Option (Text × List Row) → Type 0
+CommandFits met = AllFit (name_in met) (values_in met)
 
 -- the words ask this, and clap finds no fault with them
 pub record IsAsked (words : List Text) (o : Options) : Type 0 where

@@ -28,5 +28,5 @@ number_of default (Some text) = decimal_value text
 
 -- an option with these limits and this default is read from the text that is given: its number, if it fits, and else an
 -- error
-abbrev pub IsReadFrom : {E : Type 0} → Option (List ℕ) → (least most default : ℕ) → Result ℕ E → Type 0
-IsReadFrom given least most default result = OkIff result (Fits least most given) (number_of default given)
+abbrev pub IsNumberGiven : {E : Type 0} → Option (List ℕ) → (least most default : ℕ) → Result ℕ E → Type 0
+IsNumberGiven given least most default result = OkIff result (Fits least most given) (number_of default given)

@@ -85,12 +85,12 @@ pub record AllFit (given : Text → Option Text) : Type 0 where
   pub taken : AreTaken (given (codes "task")) given
 
 -- the command that a parse met asks this, with what its options were given
-abbrev pub MetAsks : Option (Text × List Row) → PqxAsked → Type 0
-MetAsks met o = Asks (name_in met) (values_in met) o
+abbrev pub CommandAsks : Option (Text × List Row) → PqxAsked → Type 0
+CommandAsks met o = Asks (name_in met) (values_in met) o
 
 -- what its options were given fits
-abbrev pub MetFits : Option (Text × List Row) → Type 0
-MetFits met = AllFit (values_in met)
+abbrev pub CommandFits : Option (Text × List Row) → Type 0
+CommandFits met = AllFit (values_in met)
 
 -- the words ask this, and clap finds no fault with them
 pub record IsPqxAsked (words : List Text) (o : PqxAsked) : Type 0 where

@@ -3,7 +3,7 @@
 ghost use Rattle.std.specs.Prelude.{◌≡◌, ◌↔◌, IfOk, IfErr, IsTrue, OnErr, Some, codes, map};
 ghost use Rattle.clap.specs.Words.{first_value, found_of, kind_of, subcommand_rows_of};
 ghost use Rattle.options.specs.Asked.{AllFit, Asks, IsAsked, IsKnown, ListeningFits, ListensBy, Refuses};
-ghost use Rattle.options.specs.Asked.{IsSyncing, JournalFits, JournalsBy, MetAsks, MetFits, SyncsBy, name_in};
+ghost use Rattle.options.specs.Asked.{IsSyncing, JournalFits, JournalsBy, CommandAsks, CommandFits, SyncsBy, name_in};
 ghost use Rattle.options.specs.Numbers.{given_text};
 
 use crate::asked::{Journaling, Listening, Mode, Options, Syncing};
@@ -94,8 +94,8 @@ fn options<'a>(command: &str, given: &ArgMatches<'a>) -> Result<Options<'a>, Mis
 /// What a parse found to be asked.
 fn asked<'a>(matches: &ArgMatches<'a>) -> Result<Options<'a>, Misfit>
     requires known { IsKnown (name_in (subcommand_rows_of matches.now)) }
-    ensures asked { IfOk result (MetAsks (subcommand_rows_of matches.now)) }
-    ensures misfit { OnErr result (¬ (MetFits (subcommand_rows_of matches.now))) }
+    ensures asked { IfOk result (CommandAsks (subcommand_rows_of matches.now)) }
+    ensures misfit { OnErr result (¬ (CommandFits (subcommand_rows_of matches.now))) }
 {
     let Some((command, given)) = matches.subcommand() else {
         unreachable!();

@@ -1,7 +1,7 @@
 //! Options that are numbers.
 
 ghost use Rattle.std.specs.Prelude.{◌≤◌, IfOk};
-ghost use Rattle.options.specs.Numbers.{IsReadFrom, given_text};
+ghost use Rattle.options.specs.Numbers.{IsNumberGiven, given_text};
 
 use std::fmt;
 
@@ -31,7 +31,7 @@ impl NumberOption {
 
     /// The number that is given, or the default where none is.
     pub(crate) fn read(self, given: Option<&str>) -> Result<u32, Misfit>
-        ensures number { IsReadFrom (given_text given.entry) self.least self.most self.default result }
+        ensures number { IsNumberGiven (given_text given.entry) self.least self.most self.default result }
         ensures range { IfOk result (λ n. (self.least ≤ n) × (n ≤ self.most)) }
     {
         let Some(text) = given else {

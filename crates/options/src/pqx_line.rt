@@ -4,9 +4,9 @@ ghost use Rattle.std.specs.Prelude.{◌≡◌, IfOk, IfErr, OnErr, Some, codes, 
 ghost use Rattle.std.specs.Result.{OkIff};
 ghost use Rattle.clap.specs.Words.{first_value, found_of, kind_of, subcommand_rows_of};
 ghost use Rattle.options.specs.declared.limits.TheConstants.{DEFAULT_DRAW, MAX_DRAW, MAX_POINT};
-ghost use Rattle.options.specs.Numbers.{Fits, IsReadFrom, decimal_value, given_text};
+ghost use Rattle.options.specs.Numbers.{Fits, IsNumberGiven, decimal_value, given_text};
 ghost use Rattle.options.specs.PqxAsked.{AllFit, AreTaken, Asks, AsksBrokerPoints, AsksCheck, AsksPoints, AsksRun};
-ghost use Rattle.options.specs.PqxAsked.{Chooses, IsChoice, IsPqxAsked, IsTask, MetAsks, MetFits, RefusesPqx};
+ghost use Rattle.options.specs.PqxAsked.{Chooses, IsChoice, IsPqxAsked, IsTask, CommandAsks, CommandFits, RefusesPqx};
 
 use crate::limits::DEFAULT_DRAW;
 use crate::pqx::{BrokerPointOptions, CheckOptions, Choice, PointOptions, PqxAsked, RunOptions};
@@ -59,7 +59,7 @@ fn choice(given: Option<&str>) -> Result<Choice, Misfit>
 
 /// The state that is given, or the default where none is.
 fn draw(given: Option<&str>) -> Result<u64, Misfit>
-    ensures { IsReadFrom (given_text given.entry) 0 MAX_DRAW DEFAULT_DRAW result }
+    ensures { IsNumberGiven (given_text given.entry) 0 MAX_DRAW DEFAULT_DRAW result }
 {
     let Some(text) = given else {
         return Ok(DEFAULT_DRAW);
@@ -69,7 +69,7 @@ fn draw(given: Option<&str>) -> Result<u64, Misfit>
 
 /// The first point that is given, or the very first where none is.
 fn first_point(given: Option<&str>) -> Result<u64, Misfit>
-    ensures { IsReadFrom (given_text given.entry) 0 MAX_POINT 0 result }
+    ensures { IsNumberGiven (given_text given.entry) 0 MAX_POINT 0 result }
 {
     let Some(text) = given else {
         return Ok(0);
@@ -183,8 +183,8 @@ fn asked_by<'a>(command: &str, given: &ArgMatches<'a>) -> Result<PqxAsked<'a>, M
 
 /// What a parse found to be asked.
 fn asked<'a>(matches: &ArgMatches<'a>) -> Result<PqxAsked<'a>, Misfit>
-    ensures asked { IfOk result (MetAsks (subcommand_rows_of matches.now)) }
-    ensures misfit { OnErr result (¬ (MetFits (subcommand_rows_of matches.now))) }
+    ensures asked { IfOk result (CommandAsks (subcommand_rows_of matches.now)) }
+    ensures misfit { OnErr result (¬ (CommandFits (subcommand_rows_of matches.now))) }
 {
     match matches.subcommand() {
         Some((command, given)) => asked_by(command, given),

@@ -7,7 +7,7 @@ ghost use Rattle.persist.specs.Changes.{change_of, fence_result, swap_of};
 use words::Refusal;
 
 /// A change of a kept value: of which word, as words are numbered where it is answered, and its value before and after.
-#[derive(Clone, Copy, Debug, PartialEq, Eq, Hash)]
+#[derive(Clone, Copy, Debug, PartialEq, Eq)]
 pub struct Change {
     pub word: usize,
     pub old: u64,
@@ -15,14 +15,14 @@ pub struct Change {
 }
 
 /// What an act answers, and the change of a kept value that it made, if it made one.
-#[derive(Clone, Copy, Debug, PartialEq, Eq, Hash)]
+#[derive(Clone, Copy, Debug, PartialEq, Eq)]
 pub struct Noted<T> {
     pub answer: T,
     pub change: Option<Change>,
 }
 
 /// What a compare-and-swap answers.
-#[derive(Clone, Copy, Debug, PartialEq, Eq, Hash)]
+#[derive(Clone, Copy, Debug, PartialEq, Eq)]
 pub enum Swap {
     /// The word had the old value, and has the new one.
     Done,

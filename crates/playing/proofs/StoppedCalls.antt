@@ -12,7 +12,7 @@ use Rattle.arena.specs.Shape.{Shape}
 use Rattle.words.specs.declared.limits.TheConstants.{MAX_STEPS_ALONE}
 use Rattle.protocol.specs.declared.acts.Act.{Act}
 use Rattle.playing.specs.Play.{most_alone}
-use Rattle.playing.specs.Stopped.{answer_or, answer_alone, answers_in, alone_after, alone_at}
+use Rattle.playing.specs.Stopped.{answer_or, answer_alone, lone_answers, alone_after, alone_at}
 use Rattle.playing.specs.declared.answers.Alone.{Alone}
 use Rattle.playing.proofs.GoingAlone.{first, goes_first}
 
@@ -85,7 +85,7 @@ unfolding most_alone
 few_by_client point w number =
     few_steps MAX_STEPS_ALONE 0 MAX_STEPS_ALONE point w (record { 0 = number }) (omega arith)
 
-few_in : (point : ℕ) (w : State) → All (HasFew MAX_STEPS_ALONE) (answers_in point w)
+few_in : (point : ℕ) (w : State) → All (HasFew MAX_STEPS_ALONE) (lone_answers point w)
 few_in point w =
     few_of_all (HasFew MAX_STEPS_ALONE) (λ number. answer_alone point 0 most_alone w (record { 0 = number }))
     (few_by_client point w) (range_with_len 0 w.shape.clients)

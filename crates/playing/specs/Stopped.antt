@@ -31,17 +31,17 @@ answer_alone point steps (suc more) w client =
     (answer_alone point (suc steps) more (after_step false w client) client)
 
 -- what comes of a client's call that stopped in a world after so many acts, and goes on alone
-abbrev pub answer_in : ℕ → State → Client → List Alone
-answer_in point w client = answer_alone point 0 most_alone w client
+abbrev pub lone_answer : ℕ → State → Client → List Alone
+lone_answer point w client = answer_alone point 0 most_alone w client
 
 -- of each client's in turn
-abbrev pub answers_in : ℕ → State → List Alone
-answers_in point w =
-    flat_map (λ number. answer_in point w (record { 0 = number })) (range_with_len 0 w.shape.clients)
+abbrev pub lone_answers : ℕ → State → List Alone
+lone_answers point w =
+    flat_map (λ number. lone_answer point w (record { 0 = number })) (range_with_len 0 w.shape.clients)
 
 -- after these acts, and after the first of them, so many
 abbrev pub alone_after : Shape → List (Act ℕ) → ℕ → List Alone
-alone_after s acts point = answers_in point (after_acts (new_world s) acts)
+alone_after s acts point = lone_answers point (after_acts (new_world s) acts)
 
 abbrev pub alone_at : Shape → List (Act ℕ) → ℕ → List Alone
 alone_at s acts point = alone_after s (take point acts) point

@@ -3,7 +3,7 @@
 ghost use Rattle.std.specs.Prelude.{◌≡◌, ◌≤◌, ◌+◌, ◌++◌, Ok, false, OnOk, IfOk, IfErr, All, length};
 ghost use Rattle.words.specs.declared.limits.TheConstants.{MAX_STEPS_ALONE};
 ghost use Rattle.interleave.specs.State.{after_acts, new_world};
-ghost use Rattle.playing.specs.Stopped.{alone_after, alone_at_each, alone_of, answer_in};
+ghost use Rattle.playing.specs.Stopped.{alone_after, alone_at_each, alone_of, lone_answer};
 
 use crate::acts::accepted_acts;
 use crate::answers::Alone;
@@ -33,7 +33,7 @@ fn go_alone(
     point: u64,
     client: Client,
 ) -> Result<bool, Refusal>
-    ensures found { OnOk result (found.new.items ≡ found.old.items ++ answer_in point world.old.now client) }
+    ensures found { OnOk result (found.new.items ≡ found.old.items ++ lone_answer point world.old.now client) }
     ensures same { result ≡ Ok false → world.new.now ≡ world.old.now }
     ensures errors { IfErr result (λ e. e ≡ Refusal.NoMemory) }
 {

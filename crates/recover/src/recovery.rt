@@ -15,7 +15,7 @@ use words::{Client, MAX_CLIENTS, Reports, Told};
 
 /// A recovery under way: what it has told so far, and where it waits. What is told stands beside the point, so that a
 /// step copies the point alone.
-#[derive(Clone, Copy, Debug, PartialEq, Eq, Hash)]
+#[derive(Clone, Copy, Debug, PartialEq, Eq)]
 pub struct Recovery {
     pub(crate) told: Reports,
     pub(crate) at: RecoveryPoint,

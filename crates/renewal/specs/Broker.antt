@@ -26,7 +26,8 @@ abbrev pub slot_renewed : Counts → Counts → Option Queue → List ℕ → Li
 slot_renewed to c None old = replicate (block_size_of to.clients to.records) 0
 slot_renewed to c (Some queue) old = words_renewed (shape_of queue.kind to) (shape_of queue.kind c) old
 
--- what the block of this slot becomes, whose queue, if it has one, is this
+-- what the block of this slot becomes in a broker of counts `to`: the slot has this queue, or none, and its block lies in
+-- words of counts `c`
 abbrev pub block_anew : Counts → Counts → Option Queue → ℕ → List ℕ → List ℕ
 block_anew to c queue slot ws = slot_renewed to c queue (slot_block c slot ws)
 
@@ -49,7 +50,7 @@ abbrev pub SlotFits : Counts → Counts → Option Queue → List ℕ → Type 0
 SlotFits to c None old = Unit {0}
 SlotFits to c (Some queue) old = ItemsFit (shape_of queue.kind to) (shape_of queue.kind c) old
 
--- so do those of the queue in this slot, whose queue, if it has one, is this
+-- so do those in the block of this slot, which has this queue, or none, and lies in words of counts `c`
 abbrev pub FitsAnew : Counts → Counts → Option Queue → ℕ → List ℕ → Type 0
 FitsAnew to c queue slot ws = SlotFits to c queue (slot_block c slot ws)
 

@@ -55,7 +55,7 @@ IsBlockWithin c slot ws block = block_from c slot + length block ≤ length ws
 abbrev pub RenewsQueue : Counts → ℕ → List ℕ → List ℕ → Type 0
 RenewsQueue c slot ws block = overwritten (block_from c slot) block ws ≡ queue_renewed slot ws
 
--- a broker with this slot's queue in fresh records has the same queues
+-- the words with this slot's queue in fresh records are a renewal of that queue
 abbrev pub StaysRenewed : ℕ → List ℕ → Type 0
 StaysRenewed slot ws = IsQueueRenewalOf ws slot (queue_renewed slot ws)
 

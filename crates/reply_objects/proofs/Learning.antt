@@ -6,7 +6,7 @@ use Rattle.serde_json.specs.Data.{Data, Items, no_items, item, array, object}
 use Rattle.serde_json.specs.Find.{get}
 use Rattle.serde_json.specs.Read.{read}
 use Rattle.words.specs.PlainQueue.{Value}
-use Rattle.words.specs.Refusal.{code_of}
+use Rattle.words.specs.Refusal.{code_of, refusal_at}
 use Rattle.words.specs.declared.call.Kind.{Kind}
 use Rattle.words.specs.declared.call.Kind.TheVariants.{Durable, Log}
 use Rattle.words.specs.declared.call.Reply.{Reply}
@@ -31,70 +31,10 @@ use Rattle.reply_objects.specs.Objects.{outcome_members, queue_items, queue_obje
 use Rattle.reply_objects.specs.Objects.Learnt.{listed, said}
 use Rattle.reply_objects.proofs.Writing.{read_again}
 
--- the refusal of a number
-abbrev refusal_at : ℕ → Option Refusal
-refusal_at n =
-    if n == 1 then Some refusal.NoWord
-    else (if n == 2 then Some refusal.BadMagic
-    else (if n == 3 then Some refusal.BadCount
-    else (if n == 4 then Some refusal.Truncated
-    else (if n == 5 then Some refusal.TrailingBytes
-    else (if n == 6 then Some refusal.NoMemory
-    else (if n == 7 then Some refusal.BadClients
-    else (if n == 8 then Some refusal.BadRecords
-    else (if n == 9 then Some refusal.StaleNumber
-    else (if n == 10 then Some refusal.Busy
-    else (if n == 11 then Some refusal.NoRoom
-    else (if n == 12 then Some refusal.NotReady
-    else (if n == 13 then Some refusal.NoClient
-    else (if n == 14 then Some refusal.Idle
-    else (if n == 15 then Some refusal.AlreadyReady
-    else (if n == 16 then Some refusal.BadName
-    else (if n == 17 then Some refusal.Exists
-    else (if n == 18 then Some refusal.DirectoryFull
-    else (if n == 19 then Some refusal.Gap
-    else (if n == 20 then Some refusal.Old
-    else (if n == 21 then Some refusal.NoQueue
-    else (if n == 22 then Some refusal.WrongKind
-    else (if n == 23 then Some refusal.TooLong
-    else (if n == 24 then Some refusal.BadJson
-    else (if n == 25 then Some refusal.BadRequest
-    else (if n == 26 then Some refusal.ReadFailed
-    else (if n == 27 then Some refusal.WriteFailed
-    else (if n == 30 then Some refusal.BadItem
-    else None)))))))))))))))))))))))))))
-
 refusal_again : (r : Refusal) → IsOfServer r → refusal_at (code_of r) ≡ Some r
-refusal_again refusal.NoWord fits = refl
-refusal_again refusal.BadMagic fits = refl
-refusal_again refusal.BadCount fits = refl
-refusal_again refusal.Truncated fits = refl
-refusal_again refusal.TrailingBytes fits = refl
-refusal_again refusal.NoMemory fits = refl
-refusal_again refusal.BadClients fits = refl
-refusal_again refusal.BadRecords fits = refl
-refusal_again refusal.StaleNumber fits = refl
-refusal_again refusal.Busy fits = refl
-refusal_again refusal.NoRoom fits = refl
-refusal_again refusal.NotReady fits = refl
-refusal_again refusal.NoClient fits = refl
-refusal_again refusal.Idle fits = refl
-refusal_again refusal.AlreadyReady fits = refl
-refusal_again refusal.BadName fits = refl
-refusal_again refusal.Exists fits = refl
-refusal_again refusal.DirectoryFull fits = refl
-refusal_again refusal.Gap fits = refl
-refusal_again refusal.Old fits = refl
-refusal_again refusal.NoQueue fits = refl
-refusal_again refusal.WrongKind fits = refl
-refusal_again refusal.TooLong fits = refl
-refusal_again refusal.BadJson fits = refl
-refusal_again refusal.BadRequest fits = refl
-refusal_again refusal.ReadFailed fits = refl
-refusal_again refusal.WriteFailed fits = refl
 refusal_again (refusal.BadLine line) fits = absurd fits
 refusal_again (refusal.Damaged rule) fits = absurd fits
-refusal_again refusal.BadItem fits = refl
+refusal_again _ fits = refl
 
 -- what stands at each key
 abbrev has : List ℕ → Data → Bool

@@ -46,35 +46,7 @@ IsItsText a = answer_text a ≡ compact_text (object_of a)
 refusal_plain : (r : Refusal) → escape (name_of r) ≡ name_of r
 unfolding escape_byte
 refusal_plain refusal.NoWord = refl
-refusal_plain refusal.BadMagic = refl
-refusal_plain refusal.BadCount = refl
-refusal_plain refusal.Truncated = refl
-refusal_plain refusal.TrailingBytes = refl
-refusal_plain refusal.NoMemory = refl
-refusal_plain refusal.BadClients = refl
-refusal_plain refusal.BadRecords = refl
-refusal_plain refusal.StaleNumber = refl
-refusal_plain refusal.Busy = refl
-refusal_plain refusal.NoRoom = refl
-refusal_plain refusal.NotReady = refl
-refusal_plain refusal.NoClient = refl
-refusal_plain refusal.Idle = refl
-refusal_plain refusal.AlreadyReady = refl
-refusal_plain refusal.BadName = refl
-refusal_plain refusal.Exists = refl
-refusal_plain refusal.DirectoryFull = refl
-refusal_plain refusal.Gap = refl
-refusal_plain refusal.Old = refl
-refusal_plain refusal.NoQueue = refl
-refusal_plain refusal.WrongKind = refl
-refusal_plain refusal.TooLong = refl
-refusal_plain refusal.BadJson = refl
-refusal_plain refusal.BadRequest = refl
-refusal_plain refusal.ReadFailed = refl
-refusal_plain refusal.WriteFailed = refl
-refusal_plain (refusal.BadLine line) = refl
-refusal_plain (refusal.Damaged rule) = refl
-refusal_plain refusal.BadItem = refl
+refusal_plain _ = refl
 
 reply_written : (r : Reply) → FitsReply r → IsItsText (answer.Reply r)
 unfolding escape_byte
@@ -218,36 +190,9 @@ told_plain (told.Verdict verdict) fits = outcome_plain verdict.number verdict.ou
 told_plain (told.Row r) fits = row_plain r
 
 code_fits : (r : Refusal) → IsOfServer r → (code_of r < 2 ^ 64) × IsUtf8 (name_of r)
-code_fits refusal.NoWord fits = (omega arith, IsUtf8-are_ascii _ refl)
-code_fits refusal.BadMagic fits = (omega arith, IsUtf8-are_ascii _ refl)
-code_fits refusal.BadCount fits = (omega arith, IsUtf8-are_ascii _ refl)
-code_fits refusal.Truncated fits = (omega arith, IsUtf8-are_ascii _ refl)
-code_fits refusal.TrailingBytes fits = (omega arith, IsUtf8-are_ascii _ refl)
-code_fits refusal.NoMemory fits = (omega arith, IsUtf8-are_ascii _ refl)
-code_fits refusal.BadClients fits = (omega arith, IsUtf8-are_ascii _ refl)
-code_fits refusal.BadRecords fits = (omega arith, IsUtf8-are_ascii _ refl)
-code_fits refusal.StaleNumber fits = (omega arith, IsUtf8-are_ascii _ refl)
-code_fits refusal.Busy fits = (omega arith, IsUtf8-are_ascii _ refl)
-code_fits refusal.NoRoom fits = (omega arith, IsUtf8-are_ascii _ refl)
-code_fits refusal.NotReady fits = (omega arith, IsUtf8-are_ascii _ refl)
-code_fits refusal.NoClient fits = (omega arith, IsUtf8-are_ascii _ refl)
-code_fits refusal.Idle fits = (omega arith, IsUtf8-are_ascii _ refl)
-code_fits refusal.AlreadyReady fits = (omega arith, IsUtf8-are_ascii _ refl)
-code_fits refusal.BadName fits = (omega arith, IsUtf8-are_ascii _ refl)
-code_fits refusal.Exists fits = (omega arith, IsUtf8-are_ascii _ refl)
-code_fits refusal.DirectoryFull fits = (omega arith, IsUtf8-are_ascii _ refl)
-code_fits refusal.Gap fits = (omega arith, IsUtf8-are_ascii _ refl)
-code_fits refusal.Old fits = (omega arith, IsUtf8-are_ascii _ refl)
-code_fits refusal.NoQueue fits = (omega arith, IsUtf8-are_ascii _ refl)
-code_fits refusal.WrongKind fits = (omega arith, IsUtf8-are_ascii _ refl)
-code_fits refusal.TooLong fits = (omega arith, IsUtf8-are_ascii _ refl)
-code_fits refusal.BadJson fits = (omega arith, IsUtf8-are_ascii _ refl)
-code_fits refusal.BadRequest fits = (omega arith, IsUtf8-are_ascii _ refl)
-code_fits refusal.ReadFailed fits = (omega arith, IsUtf8-are_ascii _ refl)
-code_fits refusal.WriteFailed fits = (omega arith, IsUtf8-are_ascii _ refl)
 code_fits (refusal.BadLine line) fits = absurd fits
 code_fits (refusal.Damaged rule) fits = absurd fits
-code_fits refusal.BadItem fits = (omega arith, IsUtf8-are_ascii _ refl)
+code_fits _ fits = (omega arith, IsUtf8-are_ascii _ refl)
 
 kind_utf8 : (kind : Kind) → IsUtf8 (kind_text kind)
 kind_utf8 Durable = IsUtf8-are_ascii _ refl

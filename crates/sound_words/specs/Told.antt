@@ -70,10 +70,6 @@ tells_in form s kept = map (told_in form s kept) (range_with_len 0 MAX_CLIENTS)
 abbrev pub row_with : (Place → ℕ) → ℕ → Option ℕ → Row
 row_with = row_in running
 
--- what became of the dequeue with this cell
-abbrev pub row_by : Shape → (Place → ℕ) → ℕ → Row
-row_by s kept cell = row_with kept cell (node_claimed_by kept cell (chain_of s kept))
-
 abbrev pub dequeue_outcome : (Place → ℕ) → Option ℕ → Outcome
 dequeue_outcome = dequeue_outcome_in running
 
@@ -88,3 +84,7 @@ told_by = told_in running
 
 abbrev pub tells_by : Shape → (Place → ℕ) → List Told
 tells_by = tells_in running
+
+-- what became of the dequeue with this cell
+abbrev pub row_by : Shape → (Place → ℕ) → ℕ → Row
+row_by s kept cell = row_with kept cell (node_claimed_by kept cell (chain_of s kept))

@@ -65,17 +65,19 @@ IsReadInRange s (Fence place) found = Unit {0}
 abbrev pub FindsInRange : Shape → Access Place → Words → Type 0
 FindsInRange s access ws = IsReadInRange s access (value_found s access ws)
 
--- the same of a step at a table's waiting point: the words after its one access, how they are lent then, the change of
--- a kept value, and that this comes next
+-- The same of a step at a waiting point, whose one access and what comes next a table says. The words after the step:
 abbrev pub words_by_step : {P : Type 0} → (Kind → P → Access Place) → Shape → P → Words → Words
 words_by_step access s point ws = after_one s (access s.kind point) ws
 
+-- how they are lent then
 abbrev pub lent_by_step : {P : Type 0} → (Kind → P → Access Place) → Shape → P → Lent → Lent
 lent_by_step access s point lent = lent_after_one s (access s.kind point) lent
 
+-- the change of a kept value
 abbrev pub change_by_step : {P : Type 0} → (Kind → P → Access Place) → Shape → P → Words → Option Change
 change_by_step access s point ws = change_by s (access s.kind point) ws
 
+-- and that this comes next
 abbrev pub IsNext : {P A : Type 0} → (Kind → P → Access Place) → (Shape → P → ℕ → After P A) → Shape → P → Words
     → After P A → Type 0
 IsNext access successor s point ws after = after ≡ successor s point (value_found s (access s.kind point) ws)

@@ -1,5 +1,5 @@
--- The number, the name and the text of each refusal, and the number of each rule.
-use Rattle.std.specs.Prelude.{ℕ, List, ◌++◌, codes, decimal}
+-- The number, the name and the text of each refusal, the refusal of a number, and the number of each rule.
+use Rattle.std.specs.Prelude.{ℕ, List, Option, Some, None, ◌++◌, ◌==◌, if◌then◌else◌, codes, decimal}
 use Rattle.words.specs.declared.refusal.Refusal.{Refusal}
 use Rattle.words.specs.declared.refusal.Refusal.TheVariants.{NoWord, BadMagic, BadCount, Truncated, TrailingBytes, NoMemory, BadClients, BadRecords, StaleNumber, Busy, NoRoom, NotReady, NoClient, Idle, AlreadyReady, BadName, Exists, DirectoryFull, Gap, Old, NoQueue, WrongKind, TooLong, BadJson, BadRequest, ReadFailed, WriteFailed, BadLine, Damaged, BadItem}
 use Rattle.words.specs.declared.refusal.Rule.{Rule}
@@ -48,6 +48,39 @@ code_of WriteFailed = 27
 code_of (BadLine line) = 28
 code_of (Damaged rule) = 29
 code_of BadItem = 30
+
+-- the refusal that has this number, if that is all there is to know of it
+abbrev pub refusal_at : ℕ → Option Refusal
+refusal_at n =
+    if n == 1 then Some NoWord
+    else (if n == 2 then Some BadMagic
+    else (if n == 3 then Some BadCount
+    else (if n == 4 then Some Truncated
+    else (if n == 5 then Some TrailingBytes
+    else (if n == 6 then Some NoMemory
+    else (if n == 7 then Some BadClients
+    else (if n == 8 then Some BadRecords
+    else (if n == 9 then Some StaleNumber
+    else (if n == 10 then Some Busy
+    else (if n == 11 then Some NoRoom
+    else (if n == 12 then Some NotReady
+    else (if n == 13 then Some NoClient
+    else (if n == 14 then Some Idle
+    else (if n == 15 then Some AlreadyReady
+    else (if n == 16 then Some BadName
+    else (if n == 17 then Some Exists
+    else (if n == 18 then Some DirectoryFull
+    else (if n == 19 then Some Gap
+    else (if n == 20 then Some Old
+    else (if n == 21 then Some NoQueue
+    else (if n == 22 then Some WrongKind
+    else (if n == 23 then Some TooLong
+    else (if n == 24 then Some BadJson
+    else (if n == 25 then Some BadRequest
+    else (if n == 26 then Some ReadFailed
+    else (if n == 27 then Some WriteFailed
+    else (if n == 30 then Some BadItem
+    else None)))))))))))))))))))))))))))
 
 abbrev pub name_of : Refusal → List ℕ
 name_of NoWord = codes "NoWord"

@@ -20,7 +20,7 @@ const WORD_BYTES: usize = 8;
 const ITEM_DIGITS: usize = 48;
 
 /// 0 to 24 bytes.
-#[derive(Clone, Copy, Debug, PartialEq, Eq, Hash)]
+#[derive(Clone, Copy, Debug, PartialEq, Eq)]
 pub struct Item {
     /// The bytes, and zeros behind them.
     row: [u8; ITEM_BYTES],

@@ -3,7 +3,7 @@
 use std::fmt;
 
 /// Why a call was refused. A refused call changes nothing, except where it says otherwise.
-#[derive(Clone, Copy, Debug, PartialEq, Eq, Hash)]
+#[derive(Clone, Copy, Debug, PartialEq, Eq)]
 pub enum Refusal {
     /// The word is not below the size.
     NoWord,
@@ -68,7 +68,7 @@ pub enum Refusal {
 }
 
 /// The rules of sound words, in the order in which they are looked at.
-#[derive(Clone, Copy, Debug, PartialEq, Eq, Hash)]
+#[derive(Clone, Copy, Debug, PartialEq, Eq)]
 pub enum Rule {
     /// The count of words is the layout's.
     Size,

@@ -4,7 +4,7 @@ use crate::{Reply, Value};
 use std::fmt;
 
 /// What became of a numbered call.
-#[derive(Clone, Copy, Debug, PartialEq, Eq, Hash)]
+#[derive(Clone, Copy, Debug, PartialEq, Eq)]
 pub enum Outcome {
     /// It took no effect and never will.
     NotTaken,
@@ -13,14 +13,14 @@ pub enum Outcome {
 }
 
 /// What a client of a log queue is told: the number of its last announced call, and what became of it.
-#[derive(Clone, Copy, Debug, PartialEq, Eq, Hash)]
+#[derive(Clone, Copy, Debug, PartialEq, Eq)]
 pub struct Verdict {
     pub number: u64,
     pub outcome: Outcome,
 }
 
 /// What a client of a durable queue is told of its dequeues.
-#[derive(Clone, Copy, Debug, PartialEq, Eq, Hash)]
+#[derive(Clone, Copy, Debug, PartialEq, Eq)]
 pub enum Row {
     /// There was none.
     NoCall,
@@ -33,7 +33,7 @@ pub enum Row {
 }
 
 /// What a client is told, by the kind of its queue.
-#[derive(Clone, Copy, Debug, PartialEq, Eq, Hash)]
+#[derive(Clone, Copy, Debug, PartialEq, Eq)]
 pub enum Told {
     /// Nothing: no call was announced, or there is no such client.
     None,

@@ -40,76 +40,13 @@ use Rattle.named.specs.Migrating.{BeginsAs, IsMigrated}
 use Rattle.named.proofs.beginnings.Boots.{obeyed}
 
 undamaged : (s : Shape) (ws : List ℕ) → AreSoundWords s ws → (e : Refusal) → IsDamaged s ws e → ⊥
-undamaged s ws sound NoMemory h = h
 undamaged s ws sound (Damaged rule) h = h.broken (obeyed s ws sound rule)
-undamaged s ws sound NoWord h = h
-undamaged s ws sound BadMagic h = h
-undamaged s ws sound BadCount h = h
-undamaged s ws sound Truncated h = h
-undamaged s ws sound TrailingBytes h = h
-undamaged s ws sound BadClients h = h
-undamaged s ws sound BadRecords h = h
-undamaged s ws sound StaleNumber h = h
-undamaged s ws sound Busy h = h
-undamaged s ws sound NoRoom h = h
-undamaged s ws sound NotReady h = h
-undamaged s ws sound NoClient h = h
-undamaged s ws sound Idle h = h
-undamaged s ws sound AlreadyReady h = h
-undamaged s ws sound BadName h = h
-undamaged s ws sound Exists h = h
-undamaged s ws sound DirectoryFull h = h
-undamaged s ws sound Gap h = h
-undamaged s ws sound Old h = h
-undamaged s ws sound NoQueue h = h
-undamaged s ws sound WrongKind h = h
-undamaged s ws sound TooLong h = h
-undamaged s ws sound BadJson h = h
-undamaged s ws sound BadRequest h = h
-undamaged s ws sound ReadFailed h = h
-undamaged s ws sound WriteFailed h = h
-undamaged s ws sound (BadLine line) h = h
-undamaged s ws sound BadItem h = h
+undamaged s ws sound _ h = h
 
 undamaged_broker : (ws : List ℕ) → AreBrokerWords ws → (e : Refusal) → IsBrokerDamaged ws e → ⊥
-undamaged_broker ws sound NoMemory h = h
-undamaged_broker ws sound (Damaged Size) h = h
-undamaged_broker ws sound (Damaged Records) h = h
-undamaged_broker ws sound (Damaged Chain) h = h
-undamaged_broker ws sound (Damaged Claims) h = h
-undamaged_broker ws sound (Damaged Ends) h = h
-undamaged_broker ws sound (Damaged Rows) h = h
-undamaged_broker ws sound (Damaged Entries) h = h
 undamaged_broker ws sound (Damaged Image) h = h sound.head
 undamaged_broker ws sound (Damaged directory_rule) h = h.broken sound.directory
-undamaged_broker ws sound NoWord h = h
-undamaged_broker ws sound BadMagic h = h
-undamaged_broker ws sound BadCount h = h
-undamaged_broker ws sound Truncated h = h
-undamaged_broker ws sound TrailingBytes h = h
-undamaged_broker ws sound BadClients h = h
-undamaged_broker ws sound BadRecords h = h
-undamaged_broker ws sound StaleNumber h = h
-undamaged_broker ws sound Busy h = h
-undamaged_broker ws sound NoRoom h = h
-undamaged_broker ws sound NotReady h = h
-undamaged_broker ws sound NoClient h = h
-undamaged_broker ws sound Idle h = h
-undamaged_broker ws sound AlreadyReady h = h
-undamaged_broker ws sound BadName h = h
-undamaged_broker ws sound Exists h = h
-undamaged_broker ws sound DirectoryFull h = h
-undamaged_broker ws sound Gap h = h
-undamaged_broker ws sound Old h = h
-undamaged_broker ws sound NoQueue h = h
-undamaged_broker ws sound WrongKind h = h
-undamaged_broker ws sound TooLong h = h
-undamaged_broker ws sound BadJson h = h
-undamaged_broker ws sound BadRequest h = h
-undamaged_broker ws sound ReadFailed h = h
-undamaged_broker ws sound WriteFailed h = h
-undamaged_broker ws sound (BadLine line) h = h
-undamaged_broker ws sound BadItem h = h
+undamaged_broker ws sound _ h = h
 
 no_damage : (ws : List ℕ) → AreBootWords ws → (e : Refusal) → IsBrokerDamaged ws e ⊎ IsBlockDamaged ws e → ⊥
 no_damage ws sound e (inl head) = undamaged_broker ws sound.broker e head
@@ -117,35 +54,7 @@ no_damage ws sound e (inr block) = undamaged _ _ (sound.blocks block.slot block.
 
 pub refused_for_memory : (ws : List ℕ) → AreBootWords ws → (e : Refusal) → MayRefuse ws e → e ≡ NoMemory
 refused_for_memory ws sound NoMemory h = refl
-refused_for_memory ws sound (Damaged rule) h = absurd (no_damage ws sound (Damaged rule) h)
-refused_for_memory ws sound NoWord h = absurd (no_damage ws sound NoWord h)
-refused_for_memory ws sound BadMagic h = absurd (no_damage ws sound BadMagic h)
-refused_for_memory ws sound BadCount h = absurd (no_damage ws sound BadCount h)
-refused_for_memory ws sound Truncated h = absurd (no_damage ws sound Truncated h)
-refused_for_memory ws sound TrailingBytes h = absurd (no_damage ws sound TrailingBytes h)
-refused_for_memory ws sound BadClients h = absurd (no_damage ws sound BadClients h)
-refused_for_memory ws sound BadRecords h = absurd (no_damage ws sound BadRecords h)
-refused_for_memory ws sound StaleNumber h = absurd (no_damage ws sound StaleNumber h)
-refused_for_memory ws sound Busy h = absurd (no_damage ws sound Busy h)
-refused_for_memory ws sound NoRoom h = absurd (no_damage ws sound NoRoom h)
-refused_for_memory ws sound NotReady h = absurd (no_damage ws sound NotReady h)
-refused_for_memory ws sound NoClient h = absurd (no_damage ws sound NoClient h)
-refused_for_memory ws sound Idle h = absurd (no_damage ws sound Idle h)
-refused_for_memory ws sound AlreadyReady h = absurd (no_damage ws sound AlreadyReady h)
-refused_for_memory ws sound BadName h = absurd (no_damage ws sound BadName h)
-refused_for_memory ws sound Exists h = absurd (no_damage ws sound Exists h)
-refused_for_memory ws sound DirectoryFull h = absurd (no_damage ws sound DirectoryFull h)
-refused_for_memory ws sound Gap h = absurd (no_damage ws sound Gap h)
-refused_for_memory ws sound Old h = absurd (no_damage ws sound Old h)
-refused_for_memory ws sound NoQueue h = absurd (no_damage ws sound NoQueue h)
-refused_for_memory ws sound WrongKind h = absurd (no_damage ws sound WrongKind h)
-refused_for_memory ws sound TooLong h = absurd (no_damage ws sound TooLong h)
-refused_for_memory ws sound BadJson h = absurd (no_damage ws sound BadJson h)
-refused_for_memory ws sound BadRequest h = absurd (no_damage ws sound BadRequest h)
-refused_for_memory ws sound ReadFailed h = absurd (no_damage ws sound ReadFailed h)
-refused_for_memory ws sound WriteFailed h = absurd (no_damage ws sound WriteFailed h)
-refused_for_memory ws sound (BadLine line) h = absurd (no_damage ws sound (BadLine line) h)
-refused_for_memory ws sound BadItem h = absurd (no_damage ws sound BadItem h)
+refused_for_memory ws sound refusal h = absurd (no_damage ws sound refusal h)
 
 -- so a migration is refused as the old words are
 pub refused_as_old : {T : Type 0} (old new : List ℕ) (r : Result T Refusal) → AreBootWordsIn OfValues old → AreBootWords new
