@@ -4,6 +4,7 @@ pub mod Scripted
 pub mod Script
 pub mod Prints
 pub mod Play
+pub mod PlayerView
 pub mod PutOff
 pub mod Creating
 pub mod Recovering

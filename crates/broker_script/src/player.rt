@@ -41,14 +41,9 @@ impl Model for Player {
 
     ghost Value = { Played };
 
-    ghost view = { λ p. record {
-      broker = p.session.broker;
-      kept = p.session.kept;
-      steps = p.steps;
-      creation = p.creation;
-      recovery = p.recovery;
-      image = p.image.items;
-    } };
+    ghost use Rattle.broker_script.specs.PlayerView.{player_view};
+
+    ghost view = { player_view };
 
     ghost invariant = { λ p. KeepsNumbers p.session };
 }

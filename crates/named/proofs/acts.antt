@@ -1,4 +1,5 @@
 pub mod Acts
+pub mod Looks
 pub mod Shapes
 pub mod OneSlot
 pub mod Windows

@@ -4,7 +4,9 @@ pub mod Slots
 pub mod Each
 pub mod Brokers
 pub mod BrokerView
+pub mod BlockView
 pub mod Finding
+pub mod Looking
 pub mod Acting
 pub mod Asked
 pub mod Stopping

@@ -1,5 +1,5 @@
 -- The slots of a broker: each closed, or open with a queue of either kind in its block.
-use Rattle.std.specs.Prelude.{◌≡◌, ℕ, ◌+◌, ◌-◌, ◌<◌, ◌≤◌, ◌⊎◌, Bool, true, not, is_some, length, Option, Some, None, Result, Err, IfOk, IfErr}
+use Rattle.std.specs.Prelude.{◌≡◌, ℕ, ◌+◌, ◌<◌, ◌≤◌, ◌⊎◌, Bool, true, not, is_some, length, Option, Some, None, Result, Err, IfOk, IfErr}
 use Rattle.words.specs.declared.call.Client.{Client}
 use Rattle.words.specs.declared.call.Reply.{Reply}
 use Rattle.words.specs.declared.limits.TheConstants.{MAX_STEPS_ALONE}

@@ -65,7 +65,9 @@ impl Model for Block {
 
     ghost Value = { BlockState };
 
-    ghost view = { λ s. record { core = s.core; from = s.from; len = s.len; port = s.port } };
+    ghost use Rattle.named.specs.BlockView.{block_view};
+
+    ghost view = { block_view };
 }
 
 impl Block {

@@ -7,9 +7,10 @@ ghost use Rattle.named.specs.Acting.{IsActAt, IsAloneAt, IsSameBeside};
 ghost use Rattle.named.specs.Brokers.{admission, room_at};
 ghost use Rattle.named.specs.GoingOn.{BrokerGoesOn};
 ghost use Rattle.named.specs.Promises.{KeepsPromises};
+ghost use Rattle.named.specs.Looking.{IsOpenTo};
 
 use crate::broker::Broker;
-use arena::{SLOTS, SlotId};
+use arena::SlotId;
 use persist::Noted;
 use words::{Call, Client, Refusal, Reply};
 
@@ -40,10 +41,27 @@ impl Broker {
         ensures goes_on { BrokerGoesOn self.old self.new }
         ensures promises { KeepsPromises self.new }
     {
-        self.admit(client)?;
-        if slot.0 as usize >= SLOTS {
-            return Err(Refusal::NoQueue);
-        }
+        self.look(slot, client)?;
+        self.start_open(slot, client, number, call)
+    }
+
+    /// As [`Broker::start`], in a slot that is known to be open to the client: neither is looked at again. It is refused
+    /// as [`interleave::World::start`] is.
+    pub fn start_open(
+        &mut self,
+        slot: SlotId,
+        client: Client,
+        number: u64,
+        call: Call,
+    ) -> Result<(), Refusal>
+        requires { IsOpenTo self.old slot.0 client }
+        ensures act { IsActAt (starting client number call) slot.0 client
+            self.old result self.new }
+        ensures beside { IsSameBeside slot.0 self.old self.new }
+        ensures unchanged { self.new.words.kept ≡ self.old.words.kept }
+        ensures goes_on { BrokerGoesOn self.old self.new }
+        ensures promises { KeepsPromises self.new }
+    {
         self.slots[slot.0 as usize].start(&mut self.memory, client, number, call)
     }
 
@@ -72,10 +90,26 @@ impl Broker {
         ensures goes_on { BrokerGoesOn self.old self.new }
         ensures promises { KeepsPromises self.new }
     {
-        self.admit(client)?;
-        if slot.0 as usize >= SLOTS {
-            return Err(Refusal::NoQueue);
-        }
+        self.look(slot, client)?;
+        self.step_open(slot, client)
+    }
+
+    /// As [`Broker::step_noted`], in a slot that is known to be open to the client. It is refused as
+    /// [`interleave::World::step`] is.
+    pub fn step_open(
+        &mut self,
+        slot: SlotId,
+        client: Client,
+    ) -> Result<Noted<Option<Reply>>, Refusal>
+        requires { IsOpenTo self.old slot.0 client }
+        ensures act { IsActAt (stepping client) slot.0 client
+            self.old (answer_in result) self.new }
+        ensures stays { answer_in result ≡ Ok None → room_at self.old slot.0 ≤ room_at self.new slot.0 }
+        ensures beside { IsSameBeside slot.0 self.old self.new }
+        ensures noted { IsNoted (change_in result) self.old.words.kept self.new.words.kept }
+        ensures goes_on { BrokerGoesOn self.old self.new }
+        ensures promises { KeepsPromises self.new }
+    {
         self.slots[slot.0 as usize].step(&mut self.memory, client)
     }
 
@@ -87,10 +121,18 @@ impl Broker {
         ensures goes_on { BrokerGoesOn self.old self.new }
         ensures promises { KeepsPromises self.new }
     {
-        self.admit(client)?;
-        if slot.0 as usize >= SLOTS {
-            return Err(Refusal::NoQueue);
-        }
+        self.look(slot, client)?;
+        self.run_open(slot, client)
+    }
+
+    /// As [`Broker::run_alone`], in a slot that is known to be open to the client.
+    pub fn run_open(&mut self, slot: SlotId, client: Client) -> Result<(Reply, u32), Refusal>
+        requires { IsOpenTo self.old slot.0 client }
+        ensures alone { IsAloneAt slot.0 client self.old result self.new }
+        ensures beside { IsSameBeside slot.0 self.old self.new }
+        ensures goes_on { BrokerGoesOn self.old self.new }
+        ensures promises { KeepsPromises self.new }
+    {
         self.slots[slot.0 as usize].run_alone(&mut self.memory, client)
     }
 }

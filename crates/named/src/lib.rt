@@ -19,4 +19,5 @@ mod stopping;
 
 pub use broker::Broker;
 pub use laws::{brokers_go_on, brokers_outlast_rotations, downtimes_go_on, open_queues_are_kept};
+pub use looks::Look;
 pub use recovery::BrokerRecovery;

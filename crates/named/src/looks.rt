@@ -9,6 +9,7 @@ ghost use Rattle.named.specs.Blocks.{state_in, IsWellIn};
 ghost use Rattle.named.specs.Booting.{AreBootWords};
 ghost use Rattle.named.specs.Slots.{answered, world_in, IfWorld, IsSlotWell, IsWhyUnread};
 ghost use Rattle.named.specs.GoingOn.{BrokerGoesOn};
+ghost use Rattle.named.specs.Looking.{look_at, IsOpenTo};
 ghost use Rattle.named.specs.Promises.{KeepsPromises};
 ghost use Rattle.named.specs.Brokers.{world_at, room_at, answer_at, IsWell};
 
@@ -18,6 +19,14 @@ use crate::slot::Slot;
 use arena::SlotId;
 use events::{History, Order};
 use words::{Client, Kind, Refusal, Told, Value};
+
+/// What a client finds in an open queue: its kind, and the number of the call that the client has under way, if it has
+/// one; of a durable queue's call it is 0.
+#[derive(Clone, Copy, Debug, PartialEq, Eq)]
+pub struct Look {
+    pub kind: Kind,
+    pub calling: Option<u64>,
+}
 
 impl Broker {
     /// A slot, where there is one.
@@ -81,14 +90,29 @@ impl Broker {
         Ok(self.queue(slot)?.kind())
     }
 
+    /// What a client finds in the queue of a slot. It is refused, in this order, where there is no such client
+    /// (NoClient), while the broker recovers (NotReady), and where the slot is closed (NoQueue).
+    #[tactic(auto, using(crate::proofs::promises::Promises::promises_well))]
+    pub fn look(&self, slot: SlotId, client: Client) -> Result<Look, Refusal>
+        ensures look { result ≡ answer_at (λ w. Ok (look_at client w)) self.now slot.0 client }
+        ensures open { OnOk result (IsOpenTo self.now slot.0 client) }
+        ensures promises { KeepsPromises self.now }
+    {
+        let _ = &self.layout;
+        self.admit(client)?;
+        let queue = self.queue(slot)?;
+        Ok(Look {
+            kind: queue.kind(),
+            calling: queue.calling(client),
+        })
+    }
+
     /// The number of the call that the client has under way in the queue of a slot, if it has one; of a durable queue's
-    /// call it is 0. It is refused, in this order, where there is no such client (NoClient), while the broker recovers
-    /// (NotReady), and where the slot is closed (NoQueue).
+    /// call it is 0. It is refused as [`Broker::look`] is.
     pub fn calling(&self, slot: SlotId, client: Client) -> Result<Option<u64>, Refusal>
         ensures { result ≡ answer_at (λ w. Ok (number_under_way w client)) self.now slot.0 client }
     {
-        self.admit(client)?;
-        Ok(self.queue(slot)?.calling(client))
+        Ok(self.look(slot, client)?.calling)
     }
 
     /// What happened in the queue of a slot since the history begins. It takes no memory, and is refused where the slot

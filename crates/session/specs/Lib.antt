@@ -1,5 +1,6 @@
 pub mod Numbers
 pub mod Sessions
+pub mod SessionView
 pub mod Acts
 pub mod Requests
 pub mod Keeping

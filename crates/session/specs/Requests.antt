@@ -92,12 +92,6 @@ AreAdmittedTaken s =
     → request_answer s slot client number ≡ Ok None → number ≤ MAX_CALL_NUMBER
     → number_to_start w client number ≡ Ok number
 
--- the slot is open, and no act of the client's is refused before its queue is looked at
-pub record IsOpenTo (b : Brokered) (slot : ℕ) (client : Client) : Type 0 where
-  pub world : State
-  pub here : world_at b slot ≡ Some world
-  pub admitted : admission b client ≡ Ok tt
-
 -- the client's call was started, and went on alone until it answered
 pub record IsServed (old new : Brokered) (slot : ℕ) (client : Client) (number : ℕ) (call : Call) (reply : Reply)
     : Type 0 where

@@ -1,12 +1,13 @@
 //! The requests of a session's clients.
 
-ghost use Rattle.std.specs.Prelude.{◌≡◌, ◌<◌, Ok, Err, Some, None, IfOk, IfSome, OnErr};
+ghost use Rattle.std.specs.Prelude.{◌≡◌, ◌<◌, Ok, Err, Some, None, IfOk, IfSome, OnErr, OnOk};
 ghost use Rattle.words.specs.declared.limits.TheConstants.{MAX_CALL_NUMBER};
 ghost use Rattle.persist.specs.Noted.{answer_in, change_in, IsNoted};
 ghost use Rattle.interleave.specs.Rules.{starting};
 ghost use Rattle.named.specs.Acting.{IsActAt, IsSameBeside};
 ghost use Rattle.named.specs.Brokers.{answer_at};
 ghost use Rattle.named.specs.GoingOn.{BrokerGoesOn};
+ghost use Rattle.named.specs.Looking.{IsOpenTo};
 ghost use Rattle.session.specs.Keeping.{SessionGoesOn};
 ghost use Rattle.session.specs.Promises.{IsReplyAt, IsReplyIfNumbered, KeepsNumbers};
 ghost use Rattle.session.specs.Answering.{IsAnswerKept, IsReplyKept, IsReplyOfCall};
@@ -23,13 +24,14 @@ use words::{Call, Client, Kind, Refusal, Reply};
 impl Session {
     /// Refuses what is no request to a queue of this kind, whatever its number.
     fn admit(&self, client: Client, queue: SlotId, kind: Kind) -> Result<(), Refusal>
-        ensures { result ≡ request_admission kind self.now.broker queue.0 client }
+        ensures answer { result ≡ request_admission kind self.now.broker queue.0 client }
+        ensures open { OnOk result (IsOpenTo self.now.broker queue.0 client) }
     {
-        let calling = self.broker.calling(queue, client)?;
-        if self.broker.kind(queue)? != kind {
+        let look = self.broker.look(queue, client)?;
+        if look.kind != kind {
             return Err(Refusal::WrongKind);
         }
-        if calling.is_some() {
+        if look.calling.is_some() {
             return Err(Refusal::Busy);
         }
         Ok(())
@@ -42,7 +44,8 @@ impl Session {
         queue: SlotId,
         number: Option<u64>,
     ) -> Result<Option<Reply>, Refusal>
-        ensures { result ≡ answer_to self.now queue.0 client number }
+        ensures answer { result ≡ answer_to self.now queue.0 client number }
+        ensures open { OnOk result (IsOpenTo self.now.broker queue.0 client) }
     {
         match number {
             Some(number) => {
@@ -126,7 +129,8 @@ impl Session {
         if let Some(reply) = self.look_up(client, queue, number)? {
             return Ok(Some(reply));
         }
-        self.broker.start(queue, client, number.unwrap_or(0), call)?;
+        self.broker
+            .start_open(queue, client, number.unwrap_or(0), call)?;
         Ok(None)
     }
 
@@ -153,11 +157,12 @@ impl Session {
 
     /// The number of the client's call under way, if it has one in a log queue.
     fn calling(&self, client: Client, queue: SlotId) -> Result<Option<u64>, Refusal>
-        ensures { result ≡ answer_at (λ w. Ok (call_number (Some w) client)) self.now.broker queue.0 client }
+        ensures answer { result ≡ answer_at (λ w. Ok (call_number (Some w) client)) self.now.broker queue.0 client }
+        ensures open { OnOk result (IsOpenTo self.now.broker queue.0 client) }
     {
-        let number = self.broker.calling(queue, client)?;
-        match self.broker.kind(queue)? {
-            Kind::Log => Ok(number),
+        let look = self.broker.look(queue, client)?;
+        match look.kind {
+            Kind::Log => Ok(look.calling),
             Kind::Durable => Ok(None),
         }
     }
@@ -190,7 +195,7 @@ impl Session {
     {
         // The number is read before the step: the one that answers ends the call, and the broker forgets its number.
         let number = self.calling(client, queue)?;
-        let acted = self.broker.step_noted(queue, client);
+        let acted = self.broker.step_open(queue, client);
         // By reference: an answer is not copied on its way.
         if let Ok(noted) = &acted {
             self.kept.hear(queue, client, number, &noted.answer);

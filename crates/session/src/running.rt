@@ -2,8 +2,9 @@
 
 ghost use Rattle.named.specs.Brokers.{IsWell};
 ghost use Rattle.named.specs.GoingOn.{BrokerGoesOn};
+ghost use Rattle.named.specs.Looking.{IsOpenTo};
 ghost use Rattle.named.specs.Promises.{KeepsPromises};
-ghost use Rattle.session.specs.Requests.{IsOpenTo, IsRun};
+ghost use Rattle.session.specs.Requests.{IsRun};
 
 use arena::SlotId;
 use named::Broker;
@@ -28,7 +29,7 @@ pub(crate) fn run(
     ensures promises { KeepsPromises broker.new }
 {
     broker.reserve(queue, ACTS_OF_A_CALL)?;
-    broker.start(queue, client, number, call)?;
-    let (reply, _steps) = broker.run_alone(queue, client)?;
+    broker.start_open(queue, client, number, call)?;
+    let (reply, _steps) = broker.run_open(queue, client)?;
     Ok(reply)
 }

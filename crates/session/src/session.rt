@@ -27,9 +27,11 @@ impl Model for Session {
 
     ghost Value = { Sessioned };
 
-    ghost view = { λ s. record { broker = s.broker; kept = s.kept } };
+    ghost use Rattle.session.specs.SessionView.{session_view};
 
-    ghost invariant = { λ s. IsRight (record { broker = s.broker; kept = s.kept }) };
+    ghost view = { session_view };
+
+    ghost invariant = { λ s. IsRight (session_view s) };
 }
 
 impl Session {

@@ -9,7 +9,7 @@ use Rattle.named.specs.Acting.{IsSameBeside}
 use Rattle.named.specs.Brokers.{Brokered, IsWell, admission, answer_at, answer_if, world_after, world_at}
 use Rattle.named.specs.Slots.{acted, answered}
 use Rattle.named.specs.declared.recovery.BrokerRecovery.{BrokerRecovery}
-use Rattle.session.specs.Requests.{IsOpenTo}
+use Rattle.named.specs.Looking.{IsOpenTo}
 use Rattle.session.proofs.brokers.Worlds.{clients_there}
 
 -- a client that was admitted still is, while the queue of a slot is laid out in the same way and the broker is ready

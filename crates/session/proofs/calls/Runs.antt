@@ -23,7 +23,8 @@ use Rattle.named.specs.Acting.{IsActAt, IsSameBeside}
 use Rattle.named.specs.Brokers.{Brokered, IsWell, admission, answer_at, quiet, room_at, world_after, world_at}
 use Rattle.named.specs.Slots.{IfWorld, acted}
 use Rattle.named.proofs.Facts.{directory_as_it_was, start_alike}
-use Rattle.session.specs.Requests.{IsOpenTo, IsRun, IsServed}
+use Rattle.named.specs.Looking.{IsOpenTo}
+use Rattle.session.specs.Requests.{IsRun, IsServed}
 use Rattle.session.proofs.calls.Admissions.{alike_further, open_after, open_answer, still_admitted}
 
 -- what a start found: a ready queue and a client with no call under way
@@ -153,15 +154,21 @@ made_alike old made slot m = record {
   directory_words = subst (λ (ws : Words). HaveSameDirectory old.words ws) (sym m.words) (directory_as_it_was old old m.was_well refl);
 }
 
+-- the slot stays open to its client where room is made
+abbrev pub open_with_room : (old made : Brokered) (slot : ℕ) (client : Client) → IsOpenTo old slot client → IsWell old
+    → IsRoomMade old made slot → IsOpenTo made slot client
+open_with_room old made slot client opened well m = record {
+  world = opened.world;
+  here = m.worlds slot ∙ opened.here;
+  admitted = still_admitted old made client slot opened.world opened.world well m.well opened.here
+      (m.worlds slot ∙ opened.here) refl m.recovery opened.admitted;
+}
+
 module _ (old made now : Brokered) (slot : ℕ) (client : Client) (number : ℕ) (call : Call) (opened : IsOpenTo old slot client)
     (well : IsWell old) (m : IsRoomMade old made slot) (result : Result Unit Refusal)
     (tried : IsStartTried made now slot client number call result) where
-  ok_then : admission made client ≡ Ok tt
-  ok_then = still_admitted old made client slot opened.world opened.world well m.well opened.here (m.worlds slot ∙ opened.here) refl
-      m.recovery opened.admitted
-
   abbrev admitted_then : IsOpenTo made slot client
-  admitted_then = record { world = opened.world; here = m.worlds slot ∙ opened.here; admitted = ok_then }
+  admitted_then = open_with_room old made slot client opened well m
 
   not_refused_memory : is_no_memory result ≡ false
   not_refused_memory = not_full result (room_at made slot) tried.act.full (omega (arith, m.room))
@@ -182,6 +189,16 @@ module _ (old made now : Brokered) (slot : ℕ) (client : Client) (number : ℕ)
   pub left : world_at now slot ≡ Some (after_start false opened.world client number call)
   left = left_here old made now slot client number call opened admitted_then refl result tried.act.answers tried.act.world not_refused_memory
 
+  -- the slot is open to the client still
+  pub open_now : IsOpenTo now slot client
+  open_now = record {
+    world = after_start false opened.world client number call;
+    here = left;
+    admitted = still_admitted old now client slot opened.world (after_start false opened.world client number call) well
+        tried.well opened.here left (start_alike false opened.world client number call).0
+        (tried.beside.recovery ∙ m.recovery) opened.admitted;
+  }
+
   -- the call goes on where its queue has room for one more act
   pub never_refused : {T : Type 0} (ran : Result T Refusal) (refusal : Refusal) → result ≡ Ok tt → ran ≡ Err refusal
       → (refusal ≡ NoMemory) ⊎ (answer_at (λ w. waiting_in w client) now slot client ≡ Err refusal)
@@ -190,13 +207,6 @@ module _ (old made now : Brokered) (slot : ℕ) (client : Client) (number : ℕ)
       let none : room_at now slot ≡ 0 = full (ap is_no_memory (is ∙ ap Err memory)) in
       omega (arith, m.room, tried.act.room, none)
   never_refused ran refusal ok is (inr refused) full =
-      let v : State = after_start false opened.world client number call in
-      let open_now : IsOpenTo now slot client = record {
-        world = v;
-        here = left;
-        admitted = still_admitted old now client slot opened.world v well tried.well opened.here left
-            (start_alike false opened.world client number call).0 (tried.beside.recovery ∙ m.recovery) opened.admitted;
-      } in
       goes_on_once_started opened.world client number call refusal (was_started ok)
       (sym (open_answer (λ w. waiting_in w client) now slot client open_now) ∙ refused)
 

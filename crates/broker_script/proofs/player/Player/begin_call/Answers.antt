@@ -5,6 +5,7 @@ use Rattle.words.specs.declared.refusal.Refusal.{Refusal}
 use Rattle.words.specs.declared.refusal.Refusal.TheVariants.{NoMemory}
 use Rattle.named.specs.Brokers.{Brokered, world_at}
 use Rattle.session.specs.Requests.{IsBegunBy, request_answer}
+use Rattle.broker_script.specs.PlayerView.{player_view}
 use Rattle.broker_script.specs.Play.{Played}
 use Rattle.broker_script.specs.declared.statements.Ask.{Ask}
 use Rattle.broker_script.specs.declared.statements.Ask.TheVariants.{Begin}
@@ -21,7 +22,7 @@ pub returns-in-Ok-Some-clause-asked : goal.returns-in-Ok-Some-clause-asked
 returns-in-Ok-Some-clause-asked c memory =
     let ask : Ask = Begin c.args.client c.args.number c.args.call in
     asked_as c.args.self.now
-    (record { broker = c.self.inside.session.broker; kept = c.self.inside.session.kept; steps = c.self.inside.steps; creation = c.self.inside.creation; recovery = c.self.inside.recovery; image = c.self.inside.image.items })
+    (player_view c.self.inside)
     c.self.view_is c.begin.new.self c.args.slot.0 ask (Ok (Some c.in-Ok-Some.reply)) c.is_right.ensures
     (subst (λ (o : Option Reply). IsBegunBy c.self.inside.session c.begin.new.self c.args.slot.0 c.args.client c.args.number c.args.call
     (Ok o) (request_answer c.self.inside.session c.args.slot.0 c.args.client c.args.number)) c.in-Ok-Some.field-0-is c.in-Ok-Some.ensures.begun)
@@ -30,7 +31,7 @@ returns-in-Ok-Some-clause-asked c memory =
 pub returns-in-Ok-None-clause-asked : goal.returns-in-Ok-None-clause-asked
 returns-in-Ok-None-clause-asked c memory =
     asked_begun c.args.self.now
-    (record { broker = c.self.inside.session.broker; kept = c.self.inside.session.kept; steps = c.self.inside.steps; creation = c.self.inside.creation; recovery = c.self.inside.recovery; image = c.self.inside.image.items })
+    (player_view c.self.inside)
     c.self.view_is c.begin.new.self c.begin_count.new.self c.args.slot.0 c.args.client c.args.number c.args.call
     c.is_right.ensures
     (subst (λ (o : Option Reply). IsBegunBy c.self.inside.session c.begin.new.self c.args.slot.0 c.args.client c.args.number c.args.call
@@ -42,7 +43,7 @@ pub returns-in-Err-clause-asked : goal.returns-in-Err-clause-asked
 returns-in-Err-clause-asked c memory =
     let ask : Ask = Begin c.args.client c.args.number c.args.call in
     asked_as c.args.self.now
-    (record { broker = c.self.inside.session.broker; kept = c.self.inside.session.kept; steps = c.self.inside.steps; creation = c.self.inside.creation; recovery = c.self.inside.recovery; image = c.self.inside.image.items })
+    (player_view c.self.inside)
     c.self.view_is c.begin.new.self c.args.slot.0 ask (Err c.in-Err.refusal) c.is_right.ensures
     c.in-Err.ensures.begun
     memory c.in-Err.ensures.queues c.in-Err.ensures.goes_on refl
@@ -51,7 +52,7 @@ pub returns-in-Err-clause-put_off : goal.returns-in-Err-clause-put_off
 returns-in-Err-clause-put_off c memory =
     let none : c.in-Err.refusal ≡ NoMemory = cc (memory) in
     ask_put_off c.args.self.now
-    (record { broker = c.self.inside.session.broker; kept = c.self.inside.session.kept; steps = c.self.inside.steps; creation = c.self.inside.creation; recovery = c.self.inside.recovery; image = c.self.inside.image.items })
+    (player_view c.self.inside)
     c.self.view_is c.begin.new.self
     (begun_refused c.self.inside.session c.begin.new.self c.args.slot.0 c.args.client c.args.number c.args.call
     (request_answer c.self.inside.session c.args.slot.0 c.args.client c.args.number)

@@ -4,6 +4,7 @@ use Rattle.named.specs.Brokers.{Brokered}
 use Rattle.named.specs.GoingOn.{BrokerGoesOn}
 use Rattle.named.specs.Stopping.{IsRecoveryStep}
 use Rattle.session.specs.Keeping.{SessionGoesOn}
+use Rattle.broker_script.specs.PlayerView.{player_view}
 use Rattle.broker_script.specs.Play.{Played, session_of}
 use Rattle.broker_script.proofs.Staying.{refused_ready}
 use Rattle.broker_script.proofs.PutOffs.{recovery_put_off}
@@ -28,6 +29,6 @@ returns-in-Err-clause-step c other =
 pub returns-in-Err-clause-put_off : goal.returns-in-Err-clause-put_off
 returns-in-Err-clause-put_off c memory =
     recovery_put_off c.args.self.now
-    (record { broker = c.self.inside.session.broker; kept = c.self.inside.session.kept; steps = c.self.inside.steps; creation = c.self.inside.creation; recovery = c.self.inside.recovery; image = c.self.inside.image.items })
+    (player_view c.self.inside)
     c.self.view_is c.recover_step.new.self c.in-Err.refusal c.self.invariant.broker.well
     c.in-Err.ensures.promises.broker.well (cc) c.in-Err.ensures.step c.in-Err.ensures.kept

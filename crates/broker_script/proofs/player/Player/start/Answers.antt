@@ -1,5 +1,6 @@
 use Rattle.std.proofs.Common.{ap}
 use Rattle.std.specs.Prelude.{Err}
+use Rattle.broker_script.specs.PlayerView.{player_view}
 use Rattle.broker_script.proofs.Acted.{start_refused, started}
 use Rattle.broker_script.proofs.PutOffs.{start_put_off}
 use Rattle.broker_script.proofs.player.Player.start.Goals as goal
@@ -23,7 +24,7 @@ returns-in-Err-clause-play c memory =
 pub returns-in-Err-clause-put_off : goal.returns-in-Err-clause-put_off
 returns-in-Err-clause-put_off c memory =
     start_put_off c.args.self.now
-    (record { broker = c.self.inside.session.broker; kept = c.self.inside.session.kept; steps = c.self.inside.steps; creation = c.self.inside.creation; recovery = c.self.inside.recovery; image = c.self.inside.image.items })
+    (player_view c.self.inside)
     c.self.view_is c.start.new.self c.args.slot.0 c.args.client c.args.number c.args.call c.in-Err.refusal
     c.self.invariant.broker.well c.in-Err.ensures.promises.broker.well (cc)
     c.in-Err.ensures.act c.in-Err.ensures.beside c.in-Err.ensures.kept

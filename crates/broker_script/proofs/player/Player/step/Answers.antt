@@ -1,5 +1,6 @@
 use Rattle.std.proofs.Common.{ap, sym}
 use Rattle.std.specs.Prelude.{Err}
+use Rattle.broker_script.specs.PlayerView.{player_view}
 use Rattle.broker_script.proofs.Acted.{step_refused, stepped}
 use Rattle.broker_script.proofs.PutOffs.{step_put_off}
 use Rattle.broker_script.proofs.player.Player.step.Goals as goal
@@ -23,7 +24,7 @@ returns-in-Err-clause-same c other =
 pub returns-in-Err-clause-put_off : goal.returns-in-Err-clause-put_off
 returns-in-Err-clause-put_off c memory =
     step_put_off c.args.self.now
-    (record { broker = c.self.inside.session.broker; kept = c.self.inside.session.kept; steps = c.self.inside.steps; creation = c.self.inside.creation; recovery = c.self.inside.recovery; image = c.self.inside.image.items })
+    (player_view c.self.inside)
     c.self.view_is c.advance.new.self c.args.slot.0 c.args.client _ c.in-Err.refusal
     c.self.invariant.broker.well c.in-Err.ensures.promises.broker.well (cc)
     c.in-Err.ensures.advanced c.in-Err.ensures.kept

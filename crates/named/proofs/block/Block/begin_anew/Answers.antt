@@ -5,19 +5,20 @@ use Rattle.interleave.specs.Core.{state_of}
 use Rattle.interleave.specs.Rotation.{after_rotation, rotate_result}
 use Rattle.interleave.specs.State.{State}
 use Rattle.interleave.proofs.Facts.{kept_sound}
+use Rattle.named.specs.BlockView.{block_view}
 use Rattle.named.specs.Blocks.{BlockState, IsWellIn, state_in}
 use Rattle.named.proofs.block.Block.begin_anew.Goals as goal
 
 pub begin_anew-requires-clause-sound : goal.begin_anew-requires-clause-sound
 begin_anew-requires-clause-sound c =
-    let was : BlockState = record { core = c.self.inside.core; from = c.self.inside.from; len = c.self.inside.len; port = c.self.inside.port } in
+    let was : BlockState = block_view c.self.inside in
     let well : IsWellIn c.args.memory.now.words was = subst (IsWellIn c.args.memory.now.words) (sym c.self.view_is) c.requires.well in
     subst (AreSoundWords was.core.shape) (sym c.in-Ok.ensures.words) (kept_sound (state_in c.args.memory.now.words was) well.holds)
 
 -- what it asks of the words of a block, it asks of any
 pub begin_anew-requires-clause-quiet : goal.begin_anew-requires-clause-quiet
 begin_anew-requires-clause-quiet c = λ ws.
-    let was : BlockState = record { core = c.self.inside.core; from = c.self.inside.from; len = c.self.inside.len; port = c.self.inside.port } in
+    let was : BlockState = block_view c.self.inside in
     subst (λ (b : BlockState). rotate_result false (state_of b.core ws) ≡ Ok tt) (sym c.self.view_is) (c.requires.quiet ws)
 
 pub returns-clause-state : goal.returns-clause-state
@@ -27,7 +28,7 @@ returns-clause-state c =
 
 pub returns-clause-well : goal.returns-clause-well
 returns-clause-well c =
-    let was : BlockState = record { core = c.self.inside.core; from = c.self.inside.from; len = c.self.inside.len; port = c.self.inside.port } in
+    let was : BlockState = block_view c.self.inside in
     let well : IsWellIn c.args.memory.now.words was = subst (IsWellIn c.args.memory.now.words) (sym c.self.view_is) c.requires.well in
     record {
       some = well.some;

@@ -5,6 +5,7 @@ use Rattle.persist.specs.Lent.{window_lent, window_words}
 use Rattle.interleave.specs.Core.{state_of}
 use Rattle.interleave.specs.Holds.{Holds}
 use Rattle.interleave.specs.State.{State, after_evict, evict_result}
+use Rattle.named.specs.BlockView.{block_view}
 use Rattle.named.specs.Blocks.{BlockState, IsAskedIn, IsWellIn, IsWithinBlock, state_in}
 use Rattle.named.proofs.acts.Evictions.{change_there, result_evicted, whole_evicted, within_block, words_evicted}
 use Rattle.named.proofs.acts.Shapes.{evict_alike}
@@ -14,7 +15,7 @@ use Rattle.named.proofs.block.Block.evict.Goals as goal
 pub evict-requires : goal.evict-requires
 evict-requires c =
     let old : MemoryState = c.args.memory.now in
-    let was : BlockState = record { core = c.self.inside.core; from = c.self.inside.from; len = c.self.inside.len; port = c.self.inside.port } in
+    let was : BlockState = block_view c.self.inside in
     record {
       holds = subst (λ (ws : Words). Holds (state_of was.core ws)) (sym c.in_ok-window.ensures.words)
           (subst (λ (s : BlockState). Holds (state_in old.words s)) (sym c.self.view_is) c.requires.well.holds);
@@ -26,7 +27,7 @@ returns-clause-state c =
     let v = c.evict.new.memory in
     let old : MemoryState = c.args.memory.now in
     let new : MemoryState = v.memory.now in
-    let was : BlockState = record { core = c.self.inside.core; from = c.self.inside.from; len = c.self.inside.len; port = c.self.inside.port } in
+    let was : BlockState = block_view c.self.inside in
     let first : Lent = window_lent w in
     let ws : Words = window_words w in
     let window : Window old new was c.evict.new.self _ 0 v.memory.ghost_name v.port v.from v.len first ws = record {
@@ -50,7 +51,7 @@ returns-clause-within c =
     let v = c.evict.new.memory in
     let old : MemoryState = c.args.memory.now in
     let new : MemoryState = v.memory.now in
-    let was : BlockState = record { core = c.self.inside.core; from = c.self.inside.from; len = c.self.inside.len; port = c.self.inside.port } in
+    let was : BlockState = block_view c.self.inside in
     let first : Lent = window_lent w in
     let ws : Words = window_words w in
     let window : Window old new was c.evict.new.self _ 0 v.memory.ghost_name v.port v.from v.len first ws = record {
@@ -76,7 +77,7 @@ returns-clause-words c =
     let v = c.evict.new.memory in
     let old : MemoryState = c.args.memory.now in
     let new : MemoryState = v.memory.now in
-    let was : BlockState = record { core = c.self.inside.core; from = c.self.inside.from; len = c.self.inside.len; port = c.self.inside.port } in
+    let was : BlockState = block_view c.self.inside in
     let first : Lent = window_lent w in
     let ws : Words = window_words w in
     let window : Window old new was c.evict.new.self _ 0 v.memory.ghost_name v.port v.from v.len first ws = record {
@@ -101,7 +102,7 @@ returns-clause-words c =
 pub returns-clause-result : goal.returns-clause-result
 returns-clause-result c =
     let old : Words = c.args.memory.now.words in
-    let was : BlockState = record { core = c.self.inside.core; from = c.self.inside.from; len = c.self.inside.len; port = c.self.inside.port } in
+    let was : BlockState = block_view c.self.inside in
     let shown : Words = words_in was.from was.len old in
     let from : c.self.inside.from ≤ c.args.word = subst (λ (s : BlockState). s.from ≤ c.args.word) (sym c.self.view_is) c.requires.from in
     let len : c.args.word < c.self.inside.from + c.self.inside.len = subst (λ (s : BlockState). c.args.word < s.from + s.len) (sym c.self.view_is) c.requires.len in
@@ -120,7 +121,7 @@ returns-in_err-change-clause-within c =
     let v = c.evict.new.memory in
     let old : MemoryState = c.args.memory.now in
     let new : MemoryState = v.memory.now in
-    let was : BlockState = record { core = c.self.inside.core; from = c.self.inside.from; len = c.self.inside.len; port = c.self.inside.port } in
+    let was : BlockState = block_view c.self.inside in
     let first : Lent = window_lent w in
     let ws : Words = window_words w in
     let window : Window old new was c.evict.new.self _ 0 v.memory.ghost_name v.port v.from v.len first ws = record {

@@ -12,6 +12,7 @@ use Rattle.interleave.specs.Core.{state_of}
 use Rattle.interleave.specs.Holds.{Holds}
 use Rattle.interleave.specs.Rules.{recovering}
 use Rattle.interleave.proofs.Facts.{around_recovered}
+use Rattle.named.specs.BlockView.{block_view}
 use Rattle.named.specs.Blocks.{BlockState, IsActIn, IsAskedIn, IsWellIn, state_in}
 use Rattle.named.proofs.acts.Shapes.{recovered_shape}
 use Rattle.named.proofs.acts.Windows.{Window, act_in, noted_in, number_fits, recovered_in, with_core}
@@ -20,14 +21,14 @@ use Rattle.named.proofs.block.Block.recover_step.Goals as goal
 pub recover_step_noted-recovered-requires-clause-holds : goal.recover_step_noted-recovered-requires-clause-holds
 recover_step_noted-recovered-requires-clause-holds c =
     let old : MemoryState = c.args.memory.now in
-    let was : BlockState = record { core = c.self.inside.core; from = c.self.inside.from; len = c.self.inside.len; port = c.self.inside.port } in
+    let was : BlockState = block_view c.self.inside in
     subst (λ (ws : Words). Holds (state_of was.core ws)) (sym c.in_ok-window.ensures.words)
     (subst (λ (s : BlockState). Holds (state_in old.words s)) (sym c.self.view_is) c.requires.well.holds)
 
 pub recover_step_noted-recovered-requires-clause-asked : goal.recover_step_noted-recovered-requires-clause-asked
 recover_step_noted-recovered-requires-clause-asked c =
     let old : MemoryState = c.args.memory.now in
-    let was : BlockState = record { core = c.self.inside.core; from = c.self.inside.from; len = c.self.inside.len; port = c.self.inside.port } in
+    let was : BlockState = block_view c.self.inside in
     let asked : IsAskedIn old was = subst (λ (s : BlockState). IsAskedIn old s) (sym c.self.view_is) c.requires.asked in
     subst (IfRecoveryAsked was.core.shape was.core.trace.recovery) (sym (ap (λ (l : Lent). l.request) c.in_ok-window.ensures.lent)) asked.of_recovery
 
@@ -37,7 +38,7 @@ returns-clause-act c =
     let v = c.recover_step_noted-recovered.new.memory in
     let old : MemoryState = c.args.memory.now in
     let new : MemoryState = v.memory.now in
-    let was : BlockState = record { core = c.self.inside.core; from = c.self.inside.from; len = c.self.inside.len; port = c.self.inside.port } in
+    let was : BlockState = block_view c.self.inside in
     let first : Lent = window_lent w in
     let ws : Words = window_words w in
     let window : Window old new was c.recover_step_noted-recovered.new.self _ RECOVERY_PORT v.memory.ghost_name v.port v.from v.len first ws = record {
@@ -74,7 +75,7 @@ returns-clause-noted c =
     let v = c.recover_step_noted-recovered.new.memory in
     let old : MemoryState = c.args.memory.now in
     let new : MemoryState = v.memory.now in
-    let was : BlockState = record { core = c.self.inside.core; from = c.self.inside.from; len = c.self.inside.len; port = c.self.inside.port } in
+    let was : BlockState = block_view c.self.inside in
     let first : Lent = window_lent w in
     let ws : Words = window_words w in
     let window : Window old new was c.recover_step_noted-recovered.new.self _ RECOVERY_PORT v.memory.ghost_name v.port v.from v.len first ws = record {

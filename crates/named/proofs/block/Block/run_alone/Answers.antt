@@ -4,6 +4,7 @@ use Rattle.persist.specs.Lent.{window_lent, window_words}
 use Rattle.interleave.specs.Asked.{IfCallAsked}
 use Rattle.interleave.specs.Core.{state_of}
 use Rattle.interleave.specs.Holds.{Holds}
+use Rattle.named.specs.BlockView.{block_view}
 use Rattle.named.specs.Blocks.{BlockState, IsAloneIn, IsAskedIn, IsWellIn, state_in}
 use Rattle.named.proofs.acts.Shapes.{alone_alike_by}
 use Rattle.named.proofs.acts.Windows.{Window, alone_act, alone_in, alone_lender, with_core}
@@ -12,14 +13,14 @@ use Rattle.named.proofs.block.Block.run_alone.Goals as goal
 pub run_alone-requires-clause-holds : goal.run_alone-requires-clause-holds
 run_alone-requires-clause-holds c =
     let old : MemoryState = c.args.memory.now in
-    let was : BlockState = record { core = c.self.inside.core; from = c.self.inside.from; len = c.self.inside.len; port = c.self.inside.port } in
+    let was : BlockState = block_view c.self.inside in
     subst (λ (ws : Words). Holds (state_of was.core ws)) (sym c.in_ok-window.ensures.words)
     (subst (λ (s : BlockState). Holds (state_in old.words s)) (sym c.self.view_is) c.requires.well.holds)
 
 pub run_alone-requires-clause-asked : goal.run_alone-requires-clause-asked
 run_alone-requires-clause-asked c =
     let old : MemoryState = c.args.memory.now in
-    let was : BlockState = record { core = c.self.inside.core; from = c.self.inside.from; len = c.self.inside.len; port = c.self.inside.port } in
+    let was : BlockState = block_view c.self.inside in
     let asked : IsAskedIn old was = subst (λ (s : BlockState). IsAskedIn old s) (sym c.self.view_is) c.requires.asked in
     subst (IfCallAsked was.core.shape _) (sym (ap (λ (l : Lent). l.request) c.in_ok-window.ensures.lent)) (asked.of_calls c.args.client.0)
 
@@ -29,7 +30,7 @@ returns-clause-alone c =
     let v = c.run_alone.new.memory in
     let old : MemoryState = c.args.memory.now in
     let new : MemoryState = v.memory.now in
-    let was : BlockState = record { core = c.self.inside.core; from = c.self.inside.from; len = c.self.inside.len; port = c.self.inside.port } in
+    let was : BlockState = block_view c.self.inside in
     let first : Lent = window_lent w in
     let ws : Words = window_words w in
     let window : Window old new was c.run_alone.new.self _ c.args.client.0 v.memory.ghost_name v.port v.from v.len first ws = record {

@@ -6,6 +6,7 @@ use Rattle.interleave.specs.Core.{state_of}
 use Rattle.interleave.specs.Holds.{Holds}
 use Rattle.interleave.specs.Rules.{starting}
 use Rattle.interleave.specs.State.{State}
+use Rattle.named.specs.BlockView.{block_view}
 use Rattle.named.specs.Blocks.{BlockState, IsActIn, IsAskedIn, IsWellIn, state_in}
 use Rattle.persist.specs.Noted.{IsNoted}
 use Rattle.named.proofs.acts.Shapes.{start_alike, start_kept}
@@ -15,7 +16,7 @@ use Rattle.named.proofs.block.Block.start.Goals as goal
 pub start-requires : goal.start-requires
 start-requires c =
     let old : MemoryState = c.args.memory.now in
-    let was : BlockState = record { core = c.self.inside.core; from = c.self.inside.from; len = c.self.inside.len; port = c.self.inside.port } in
+    let was : BlockState = block_view c.self.inside in
     record {
       holds = subst (λ (ws : Words). Holds (state_of was.core ws)) (sym c.in_ok-window.ensures.words)
           (subst (λ (s : BlockState). Holds (state_in old.words s)) (sym c.self.view_is) c.requires.well.holds);
@@ -27,7 +28,7 @@ returns-clause-act c =
     let v = c.start.new.memory in
     let old : MemoryState = c.args.memory.now in
     let new : MemoryState = v.memory.now in
-    let was : BlockState = record { core = c.self.inside.core; from = c.self.inside.from; len = c.self.inside.len; port = c.self.inside.port } in
+    let was : BlockState = block_view c.self.inside in
     let first : Lent = window_lent w in
     let ws : Words = window_words w in
     let window : Window old new was c.start.new.self _ 0 v.memory.ghost_name v.port v.from v.len first ws = record {
@@ -59,7 +60,7 @@ returns-clause-kept c =
     let v = c.start.new.memory in
     let old : MemoryState = c.args.memory.now in
     let new : MemoryState = v.memory.now in
-    let was : BlockState = record { core = c.self.inside.core; from = c.self.inside.from; len = c.self.inside.len; port = c.self.inside.port } in
+    let was : BlockState = block_view c.self.inside in
     let first : Lent = window_lent w in
     let ws : Words = window_words w in
     let window : Window old new was c.start.new.self _ 0 v.memory.ghost_name v.port v.from v.len first ws = record {

@@ -13,6 +13,7 @@ use Rattle.interleave.specs.Holds.{Holds}
 use Rattle.interleave.specs.Rules.{stepping}
 use Rattle.interleave.specs.State.{State}
 use Rattle.interleave.proofs.Facts.{around_stepped}
+use Rattle.named.specs.BlockView.{block_view}
 use Rattle.named.specs.Blocks.{BlockState, IsActIn, IsAskedIn, IsWellIn, state_in}
 use Rattle.named.proofs.acts.Shapes.{step_alike}
 use Rattle.named.proofs.acts.Windows.{Window, act_in, noted_in, number_fits, stepped_in, with_core}
@@ -21,14 +22,14 @@ use Rattle.named.proofs.block.Block.step.Goals as goal
 pub step_noted-stepped-requires-clause-holds : goal.step_noted-stepped-requires-clause-holds
 step_noted-stepped-requires-clause-holds c =
     let old : MemoryState = c.args.memory.now in
-    let was : BlockState = record { core = c.self.inside.core; from = c.self.inside.from; len = c.self.inside.len; port = c.self.inside.port } in
+    let was : BlockState = block_view c.self.inside in
     subst (λ (ws : Words). Holds (state_of was.core ws)) (sym c.in_ok-window.ensures.words)
     (subst (λ (s : BlockState). Holds (state_in old.words s)) (sym c.self.view_is) c.requires.well.holds)
 
 pub step_noted-stepped-requires-clause-asked : goal.step_noted-stepped-requires-clause-asked
 step_noted-stepped-requires-clause-asked c =
     let old : MemoryState = c.args.memory.now in
-    let was : BlockState = record { core = c.self.inside.core; from = c.self.inside.from; len = c.self.inside.len; port = c.self.inside.port } in
+    let was : BlockState = block_view c.self.inside in
     let asked : IsAskedIn old was = subst (λ (s : BlockState). IsAskedIn old s) (sym c.self.view_is) c.requires.asked in
     subst (IfCallAsked was.core.shape _) (sym (ap (λ (l : Lent). l.request) c.in_ok-window.ensures.lent)) (asked.of_calls c.args.client.0)
 
@@ -38,7 +39,7 @@ returns-clause-act c =
     let v = c.step_noted-stepped.new.memory in
     let old : MemoryState = c.args.memory.now in
     let new : MemoryState = v.memory.now in
-    let was : BlockState = record { core = c.self.inside.core; from = c.self.inside.from; len = c.self.inside.len; port = c.self.inside.port } in
+    let was : BlockState = block_view c.self.inside in
     let first : Lent = window_lent w in
     let ws : Words = window_words w in
     let window : Window old new was c.step_noted-stepped.new.self _ c.args.client.0 v.memory.ghost_name v.port v.from v.len first ws = record {
@@ -80,7 +81,7 @@ returns-clause-noted c =
     let v = c.step_noted-stepped.new.memory in
     let old : MemoryState = c.args.memory.now in
     let new : MemoryState = v.memory.now in
-    let was : BlockState = record { core = c.self.inside.core; from = c.self.inside.from; len = c.self.inside.len; port = c.self.inside.port } in
+    let was : BlockState = block_view c.self.inside in
     let first : Lent = window_lent w in
     let ws : Words = window_words w in
     let window : Window old new was c.step_noted-stepped.new.self _ c.args.client.0 v.memory.ghost_name v.port v.from v.len first ws = record {

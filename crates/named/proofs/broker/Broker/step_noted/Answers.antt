@@ -1,104 +1,24 @@
-use Rattle.std.proofs.Common.{◌≡◌, arith, Ok, slice_get, slice_set, Some, sym, subst, ap, ◌∙◌, refl}
-use Rattle.std.proofs.lemmas.Option.{slice_get_read, slice_get_within}
+use Rattle.std.proofs.Common.{rules, ◌≡◌, Option, Result, Err, sym, subst, ◌∙◌}
+use Rattle.words.specs.declared.call.Reply.{Reply}
+use Rattle.words.specs.declared.refusal.Refusal.{Refusal}
 use Rattle.persist.specs.Noted.{answer_in}
-use Rattle.protocol.specs.declared.acts.Act.TheVariants.{Step}
+use Rattle.persist.specs.declared.access.Noted.{Noted}
 use Rattle.interleave.specs.Rules.{stepping}
-use Rattle.interleave.proofs.Facts.{get_set}
-use Rattle.named.specs.BrokerView.{broker_view}
-use Rattle.named.specs.Slots.{room_in}
-use Rattle.named.specs.Acting.{IsActAt, IsSameBeside}
-use Rattle.named.specs.Brokers.{Brokered, IsWell, admission, room_at, room_of}
-use Rattle.named.specs.GoingOn.{BrokerGoesOn}
-use Rattle.named.specs.declared.slot.Slot.{Slot}
-use Rattle.named.proofs.acts.Acts.{act_at, goes_on_at, nothing_beside, same_beside, still_over}
-use Rattle.named.proofs.acts.Requests.{admitted_client, slot_asked_here}
+use Rattle.named.specs.Acting.{IsActAt}
+use Rattle.named.specs.Looking.{look_at}
+use Rattle.named.proofs.acts.Acts.{nothing_beside}
 use Rattle.named.proofs.acts.Continuity.{broker_stays}
-use Rattle.named.proofs.acts.OneSlot.{slot_is_well}
-use Rattle.named.proofs.promises.Promises.{promises_kept, promises_well}
+use Rattle.named.proofs.acts.Looks.{not_acted}
 use Rattle.named.proofs.broker.Broker.step_noted.Goals as goal
 
-pub step-requires : goal.step-requires
-step-requires c =
-    let b : Brokered = broker_view c.self.inside in
-    let was : Slot = c.index_mut.result.now in
-    let here : slice_get b.slots c.args.slot.0 ≡ Some was =
-    slice_get_read b.slots 8 c.args.slot.0 was (sym c.self.invariant.well.count) c.if-slot-ge-SLOTS.false c.index_mut.ensures.value in
-    record {
-      well = slot_is_well b.counts b.words c.args.slot.0 was (c.self.invariant.well.slots c.args.slot.0 was here);
-      asked = slot_asked_here b c.self.inside.memory c.args.slot.0 was c.self.invariant here;
-      client = admitted_client b c.args.client c.self.invariant.well (ap (λ (x : Brokered). admission x c.args.client) c.self.view_is ∙ sym c.admit.ensures ∙ c.in_ok-admit.was);
-    }
+pub returns-in_err-look-clause-act : goal.returns-in_err-look-clause-act
+returns-in_err-look-clause-act c =
+    let answer : c.from_residual.result ≡ Err c.in_err-look.field-0.0 = search rules in
+    subst (λ (r : Result (Noted (Option Reply)) Refusal). IsActAt (stepping c.args.client) c.args.slot.0 c.args.client c.args.self.now (answer_in r) c.args.self.now) (sym answer)
+    (not_acted (look_at c.args.client) c.args.self.now c.args.slot.0 c.args.client c.in_err-look.field-0.0 (sym c.look.ensures.look ∙ c.in_err-look.was) (Option Reply) (stepping c.args.client))
 
-pub invariant_of-self : goal.invariant_of-self
-invariant_of-self c =
-    let b : Brokered = broker_view c.self.inside in
-    let was : Slot = c.index_mut.result.now in
-    let here : slice_get b.slots c.args.slot.0 ≡ Some was =
-    slice_get_read b.slots 8 c.args.slot.0 was (sym c.self.invariant.well.count) c.if-slot-ge-SLOTS.false c.index_mut.ensures.value in
-    still_over b c.self.inside.memory c.step.new.memory c.args.slot.0 was c.step.new.self c.self.invariant here c.if-slot-ge-SLOTS.false c.step.ensures.within
+pub returns-in_err-look-clause-beside : goal.returns-in_err-look-clause-beside
+returns-in_err-look-clause-beside c = nothing_beside _ c.args.slot.0 c.look.ensures.promises.well
 
-pub returns-clause-act : goal.returns-clause-act
-returns-clause-act c =
-    let b : Brokered = broker_view c.self.inside in
-    let was : Slot = c.index_mut.result.now in
-    let here : slice_get b.slots c.args.slot.0 ≡ Some was =
-    slice_get_read b.slots 8 c.args.slot.0 was (sym c.self.invariant.well.count) c.if-slot-ge-SLOTS.false c.index_mut.ensures.value in
-    let new : Brokered = record b { words = c.step.new.memory.words; slots = slice_set b.slots c.args.slot.0 c.step.new.self } in
-    let admitted : admission b c.args.client ≡ Ok tt = ap (λ (x : Brokered). admission x c.args.client) c.self.view_is ∙ sym c.admit.ensures ∙ c.in_ok-admit.was in
-    subst (λ (x : Brokered). IsActAt (stepping c.args.client) c.args.slot.0 c.args.client x (answer_in c.step.result) new) c.self.view_is
-    (act_at b c.self.inside.memory c.step.new.memory c.args.slot.0 was c.step.new.self c.self.invariant here c.if-slot-ge-SLOTS.false c.step.ensures.within (stepping c.args.client) c.args.client (answer_in c.step.result) admitted c.step.ensures.act)
-
-pub returns-clause-goes_on : goal.returns-clause-goes_on
-returns-clause-goes_on c =
-    let b : Brokered = broker_view c.self.inside in
-    let was : Slot = c.index_mut.result.now in
-    let here : slice_get b.slots c.args.slot.0 ≡ Some was =
-    slice_get_read b.slots 8 c.args.slot.0 was (sym c.self.invariant.well.count) c.if-slot-ge-SLOTS.false c.index_mut.ensures.value in
-    let new : Brokered = record b { words = c.step.new.memory.words; slots = slice_set b.slots c.args.slot.0 c.step.new.self } in
-    let admitted : admission b c.args.client ≡ Ok tt = ap (λ (x : Brokered). admission x c.args.client) c.self.view_is ∙ sym c.admit.ensures ∙ c.in_ok-admit.was in
-    subst (λ (x : Brokered). BrokerGoesOn x new) c.self.view_is
-    (goes_on_at b c.self.inside.memory c.step.new.memory c.args.slot.0 was c.step.new.self c.self.invariant here c.if-slot-ge-SLOTS.false c.step.ensures.within (stepping c.args.client) c.args.client (answer_in c.step.result) admitted c.step.ensures.act (Step c.args.client) (λ w. refl))
-
-pub returns-clause-beside : goal.returns-clause-beside
-returns-clause-beside c =
-    let b : Brokered = broker_view c.self.inside in
-    let was : Slot = c.index_mut.result.now in
-    let here : slice_get b.slots c.args.slot.0 ≡ Some was =
-    slice_get_read b.slots 8 c.args.slot.0 was (sym c.self.invariant.well.count) c.if-slot-ge-SLOTS.false c.index_mut.ensures.value in
-    let new : Brokered = record b { words = c.step.new.memory.words; slots = slice_set b.slots c.args.slot.0 c.step.new.self } in
-    subst (λ (x : Brokered). IsSameBeside c.args.slot.0 x new) c.self.view_is
-    (same_beside b c.self.inside.memory c.step.new.memory c.args.slot.0 was c.step.new.self c.self.invariant here c.if-slot-ge-SLOTS.false c.step.ensures.within)
-
-pub returns-clause-promises : goal.returns-clause-promises
-returns-clause-promises c = promises_well _ (invariant_of-self c).well
-
-pub returns-in_err-admit-clause-beside : goal.returns-in_err-admit-clause-beside
-returns-in_err-admit-clause-beside c =
-    nothing_beside _ c.args.slot.0 (subst IsWell c.self.view_is c.self.invariant.well)
-
-pub returns-in_err-admit-clause-goes_on : goal.returns-in_err-admit-clause-goes_on
-returns-in_err-admit-clause-goes_on c = broker_stays _
-
-pub returns-in_err-admit-clause-promises : goal.returns-in_err-admit-clause-promises
-returns-in_err-admit-clause-promises c = promises_kept _ _ c.self.invariant.well c.self.view_is
-
-pub returns-then-slot-ge-SLOTS-clause-beside : goal.returns-then-slot-ge-SLOTS-clause-beside
-returns-then-slot-ge-SLOTS-clause-beside c =
-    nothing_beside _ c.args.slot.0 (subst IsWell c.self.view_is c.self.invariant.well)
-
-pub returns-then-slot-ge-SLOTS-clause-goes_on : goal.returns-then-slot-ge-SLOTS-clause-goes_on
-returns-then-slot-ge-SLOTS-clause-goes_on c = broker_stays _
-
-pub returns-then-slot-ge-SLOTS-clause-promises : goal.returns-then-slot-ge-SLOTS-clause-promises
-returns-then-slot-ge-SLOTS-clause-promises c = promises_kept _ _ c.self.invariant.well c.self.view_is
-
-pub returns-clause-stays : goal.returns-clause-stays
-returns-clause-stays c = λ e.
-    let b : Brokered = broker_view c.self.inside in
-    let was : Slot = c.index_mut.result.now in
-    let here : slice_get b.slots c.args.slot.0 ≡ Some was =
-    slice_get_read b.slots 8 c.args.slot.0 was (sym c.self.invariant.well.count) c.if-slot-ge-SLOTS.false c.index_mut.ensures.value in
-    let old : room_at c.args.self.now c.args.slot.0 ≡ room_in was = sym (ap (λ (x : Brokered). room_at x c.args.slot.0) c.self.view_is) ∙ ap room_of here in
-    let now : room_of (slice_get (slice_set b.slots c.args.slot.0 c.step.new.self) c.args.slot.0) ≡ room_in c.step.new.self =
-    ap room_of (get_set b.slots c.args.slot.0 c.step.new.self (slice_get_within b.slots c.args.slot.0 was here)) in
-    omega (arith, old, now, c.step.ensures.stays e)
+pub returns-in_err-look-clause-goes_on : goal.returns-in_err-look-clause-goes_on
+returns-in_err-look-clause-goes_on c = broker_stays _

@@ -22,18 +22,18 @@ returns-in_err-number-clause-promises c = numbers_shown _ _ c.self.invariant c.s
 
 pub invariant_of-self-in_default : goal.invariant_of-self-in_default
 invariant_of-self-in_default c =
-    advanced_right c.self.inside.broker c.step_noted-acted.new.self c.args.queue.0 c.args.client c.self.inside.kept c.self.inside.kept
-    (answer_in c.step_noted-acted.result) c.self.invariant c.step_noted-acted.ensures.promises.well
-    (record { act = c.step_noted-acted.ensures.act; stays = c.step_noted-acted.ensures.stays; beside = c.step_noted-acted.ensures.beside })
-    (kept_refused c.self.inside.kept c.args.queue.0 c.args.client.0 _ (answer_in c.step_noted-acted.result) c.in_default.field-0 (ap (answer_in {T = Option Reply}) c.in_default.is))
+    advanced_right c.self.inside.broker c.step_open-acted.new.self c.args.queue.0 c.args.client c.self.inside.kept c.self.inside.kept
+    (answer_in c.step_open-acted.result) c.self.invariant c.step_open-acted.ensures.promises.well
+    (record { act = c.step_open-acted.ensures.act; stays = c.step_open-acted.ensures.stays; beside = c.step_open-acted.ensures.beside })
+    (kept_refused c.self.inside.kept c.args.queue.0 c.args.client.0 _ (answer_in c.step_open-acted.result) c.in_default.field-0 (ap (answer_in {T = Option Reply}) c.in_default.is))
 
 pub returns-in_default-clause-goes_on : goal.returns-in_default-clause-goes_on
 returns-in_default-clause-goes_on c =
-    subst (λ (s : Sessioned). SessionGoesOn s (record { broker = c.step_noted-acted.new.self; kept = c.self.inside.kept })) c.self.view_is
-    (advanced_on c.self.inside.broker c.step_noted-acted.new.self c.args.queue.0 c.args.client c.self.inside.kept c.self.inside.kept
-    (answer_in c.step_noted-acted.result) c.self.invariant
-    (record { act = c.step_noted-acted.ensures.act; stays = c.step_noted-acted.ensures.stays; beside = c.step_noted-acted.ensures.beside })
-    (kept_refused c.self.inside.kept c.args.queue.0 c.args.client.0 _ (answer_in c.step_noted-acted.result) c.in_default.field-0 (ap (answer_in {T = Option Reply}) c.in_default.is)))
+    subst (λ (s : Sessioned). SessionGoesOn s (record { broker = c.step_open-acted.new.self; kept = c.self.inside.kept })) c.self.view_is
+    (advanced_on c.self.inside.broker c.step_open-acted.new.self c.args.queue.0 c.args.client c.self.inside.kept c.self.inside.kept
+    (answer_in c.step_open-acted.result) c.self.invariant
+    (record { act = c.step_open-acted.ensures.act; stays = c.step_open-acted.ensures.stays; beside = c.step_open-acted.ensures.beside })
+    (kept_refused c.self.inside.kept c.args.queue.0 c.args.client.0 _ (answer_in c.step_open-acted.result) c.in_default.field-0 (ap (answer_in {T = Option Reply}) c.in_default.is)))
 
 pub returns-in_default-clause-promises : goal.returns-in_default-clause-promises
 returns-in_default-clause-promises c = numbers_kept _ (invariant_of-self-in_default c)
@@ -41,17 +41,17 @@ returns-in_default-clause-promises c = numbers_kept _ (invariant_of-self-in_defa
 pub hear-requires-clause-slot : goal.hear-requires-clause-slot
 hear-requires-clause-slot c =
     let at = answered_at _ c.self.inside.broker c.args.queue.0 c.args.client c.in-Ok.noted.answer
-    (sym c.step_noted-acted.ensures.act.answers ∙ (ap (answer_in {T = Option Reply}) c.in-Ok.is)) in
+    (sym c.step_open-acted.ensures.act.answers ∙ (ap (answer_in {T = Option Reply}) c.in-Ok.is)) in
     open_below c.self.inside.broker c.self.invariant.well c.args.queue.0 at.world at.here
 
 pub invariant_of-self : goal.invariant_of-self
 invariant_of-self c =
     let asked = number_heard c.args.self.now.broker c.args.queue.0 c.args.client c.in_ok-number.number c.calling.result
-    c.in_ok-number.was c.calling.ensures in
-    advanced_right c.self.inside.broker c.step_noted-acted.new.self c.args.queue.0 c.args.client c.self.inside.kept c.hear.new.self
-    (answer_in c.step_noted-acted.result) c.self.invariant c.step_noted-acted.ensures.promises.well
-    (record { act = c.step_noted-acted.ensures.act; stays = c.step_noted-acted.ensures.stays; beside = c.step_noted-acted.ensures.beside })
-    (kept_heard c.self.inside.kept c.hear.new.self c.args.queue.0 c.args.client.0 c.in_ok-number.number _ (answer_in c.step_noted-acted.result)
+    c.in_ok-number.was c.calling.ensures.answer in
+    advanced_right c.self.inside.broker c.step_open-acted.new.self c.args.queue.0 c.args.client c.self.inside.kept c.hear.new.self
+    (answer_in c.step_open-acted.result) c.self.invariant c.step_open-acted.ensures.promises.well
+    (record { act = c.step_open-acted.ensures.act; stays = c.step_open-acted.ensures.stays; beside = c.step_open-acted.ensures.beside })
+    (kept_heard c.self.inside.kept c.hear.new.self c.args.queue.0 c.args.client.0 c.in_ok-number.number _ (answer_in c.step_open-acted.result)
     c.in-Ok.noted.answer
     (subst (λ (s : Sessioned). c.in_ok-number.number ≡ call_number (world_at s.broker c.args.queue.0) c.args.client)
     (sym c.self.view_is) asked)
@@ -60,29 +60,29 @@ invariant_of-self c =
 pub returns-in-Ok-clause-reply : goal.returns-in-Ok-clause-reply
 returns-in-Ok-clause-reply c =
     subst (λ r. IfOk r (λ answer. IfSome answer (IsReplyIfNumbered
-    (record { broker = c.step_noted-acted.new.self; kept = c.hear.new.self }) c.args.queue.0 c.args.client
+    (record { broker = c.step_open-acted.new.self; kept = c.hear.new.self }) c.args.queue.0 c.args.client
     (call_number (world_at c.args.self.now.broker c.args.queue.0) c.args.client)))) (sym (ap (answer_in {T = Option Reply}) c.in-Ok.is))
     (subst (λ (s : Sessioned). IfSome c.in-Ok.noted.answer (IsReplyIfNumbered
-    (record { broker = c.step_noted-acted.new.self; kept = c.hear.new.self }) c.args.queue.0 c.args.client
+    (record { broker = c.step_open-acted.new.self; kept = c.hear.new.self }) c.args.queue.0 c.args.client
     (call_number (world_at s.broker c.args.queue.0) c.args.client))) c.self.view_is
     (by_answer c.in-Ok.noted.answer (ap (answer_in {T = Option Reply}) c.in-Ok.is)))
   where
-    made : IsAdvanced c.self.inside.broker c.step_noted-acted.new.self c.args.queue.0 c.args.client (answer_in c.step_noted-acted.result)
-    made = record { act = c.step_noted-acted.ensures.act; stays = c.step_noted-acted.ensures.stays; beside = c.step_noted-acted.ensures.beside }
+    made : IsAdvanced c.self.inside.broker c.step_open-acted.new.self c.args.queue.0 c.args.client (answer_in c.step_open-acted.result)
+    made = record { act = c.step_open-acted.ensures.act; stays = c.step_open-acted.ensures.stays; beside = c.step_open-acted.ensures.beside }
 
-    by_answer : (answer : Option Reply) → (answer_in c.step_noted-acted.result) ≡ Ok answer → IfSome answer (IsReplyIfNumbered
-        (record { broker = c.step_noted-acted.new.self; kept = c.hear.new.self }) c.args.queue.0 c.args.client
+    by_answer : (answer : Option Reply) → (answer_in c.step_open-acted.result) ≡ Ok answer → IfSome answer (IsReplyIfNumbered
+        (record { broker = c.step_open-acted.new.self; kept = c.hear.new.self }) c.args.queue.0 c.args.client
         (call_number (world_at c.self.inside.broker c.args.queue.0) c.args.client))
     by_answer None e = tt
     by_answer (Some reply) e =
-        advanced_reply c.self.inside.broker c.step_noted-acted.new.self c.args.queue.0 c.args.client c.self.inside.kept c.hear.new.self
+        advanced_reply c.self.inside.broker c.step_open-acted.new.self c.args.queue.0 c.args.client c.self.inside.kept c.hear.new.self
         reply c.self.invariant
-        (subst (IsAdvanced c.self.inside.broker c.step_noted-acted.new.self c.args.queue.0 c.args.client) e made)
+        (subst (IsAdvanced c.self.inside.broker c.step_open-acted.new.self c.args.queue.0 c.args.client) e made)
 
 pub returns-in-Ok-clause-kept : goal.returns-in-Ok-clause-kept
 returns-in-Ok-clause-kept c =
     let asked = number_heard c.args.self.now.broker c.args.queue.0 c.args.client c.in_ok-number.number c.calling.result
-    c.in_ok-number.was c.calling.ensures in
+    c.in_ok-number.was c.calling.ensures.answer in
     subst (λ r. IsKeptNow c.args.self.now.kept c.hear.new.self c.args.queue.0 c.args.client.0
     (last_after (call_number (world_at c.args.self.now.broker c.args.queue.0) c.args.client) r
     (kept_in c.args.self.now.kept c.args.queue.0 c.args.client.0))) (sym (ap (answer_in {T = Option Reply}) c.in-Ok.is))
@@ -95,12 +95,12 @@ returns-in-Ok-clause-kept c =
 pub returns-in-Ok-clause-goes_on : goal.returns-in-Ok-clause-goes_on
 returns-in-Ok-clause-goes_on c =
     let asked = number_heard c.args.self.now.broker c.args.queue.0 c.args.client c.in_ok-number.number c.calling.result
-    c.in_ok-number.was c.calling.ensures in
-    subst (λ (s : Sessioned). SessionGoesOn s (record { broker = c.step_noted-acted.new.self; kept = c.hear.new.self })) c.self.view_is
-    (advanced_on c.self.inside.broker c.step_noted-acted.new.self c.args.queue.0 c.args.client c.self.inside.kept c.hear.new.self
-    (answer_in c.step_noted-acted.result) c.self.invariant
-    (record { act = c.step_noted-acted.ensures.act; stays = c.step_noted-acted.ensures.stays; beside = c.step_noted-acted.ensures.beside })
-    (kept_heard c.self.inside.kept c.hear.new.self c.args.queue.0 c.args.client.0 c.in_ok-number.number _ (answer_in c.step_noted-acted.result)
+    c.in_ok-number.was c.calling.ensures.answer in
+    subst (λ (s : Sessioned). SessionGoesOn s (record { broker = c.step_open-acted.new.self; kept = c.hear.new.self })) c.self.view_is
+    (advanced_on c.self.inside.broker c.step_open-acted.new.self c.args.queue.0 c.args.client c.self.inside.kept c.hear.new.self
+    (answer_in c.step_open-acted.result) c.self.invariant
+    (record { act = c.step_open-acted.ensures.act; stays = c.step_open-acted.ensures.stays; beside = c.step_open-acted.ensures.beside })
+    (kept_heard c.self.inside.kept c.hear.new.self c.args.queue.0 c.args.client.0 c.in_ok-number.number _ (answer_in c.step_open-acted.result)
     c.in-Ok.noted.answer
     (subst (λ (s : Sessioned). c.in_ok-number.number ≡ call_number (world_at s.broker c.args.queue.0) c.args.client)
     (sym c.self.view_is) asked)
@@ -113,7 +113,7 @@ pub returns-in_err-number-clause-queues : goal.returns-in_err-number-clause-queu
 returns-in_err-number-clause-queues c = broker_stays _
 
 pub returns-in_default-clause-queues : goal.returns-in_default-clause-queues
-returns-in_default-clause-queues c = queues_on _ _ _ c.self.view_is c.step_noted-acted.ensures.goes_on
+returns-in_default-clause-queues c = queues_on _ _ _ c.self.view_is c.step_open-acted.ensures.goes_on
 
 pub returns-in-Ok-clause-queues : goal.returns-in-Ok-clause-queues
-returns-in-Ok-clause-queues c = queues_on _ _ _ c.self.view_is c.step_noted-acted.ensures.goes_on
+returns-in-Ok-clause-queues c = queues_on _ _ _ c.self.view_is c.step_open-acted.ensures.goes_on

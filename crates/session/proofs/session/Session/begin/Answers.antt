@@ -5,6 +5,7 @@ use Rattle.words.specs.declared.refusal.Refusal.TheVariants.{StaleNumber}
 use Rattle.interleave.specs.Calls.{is_no_memory}
 use Rattle.interleave.specs.State.{after_start}
 use Rattle.named.proofs.Facts.{broker_stays, start_alike}
+use Rattle.session.specs.SessionView.{session_view}
 use Rattle.session.specs.Keeping.{SessionGoesOn}
 use Rattle.session.specs.Requests.{IsBegunBy, IsStarted, answer_to, as_begun, number_or_zero}
 use Rattle.session.specs.Sessions.{IsRight, Sessioned}
@@ -18,20 +19,20 @@ use Rattle.session.proofs.session.Session.begin.Goals as goal
 
 pub returns-in_err-start-clause-begun : goal.returns-in_err-start-clause-begun
 returns-in_err-start-clause-begun c =
-    let old : Sessioned = record { broker = c.self.inside.broker; kept = c.self.inside.kept } in
-    let new : Sessioned = record { broker = c.start.new.self; kept = c.self.inside.kept } in
+    let old : Sessioned = session_view c.self.inside in
+    let new : Sessioned = record { broker = c.start_open.new.self; kept = c.self.inside.kept } in
     let runs : answer_to c.args.self.now c.args.queue.0 c.args.client c.args.number ≡ Ok None = search rules in
     let number : c.unwrap_or.result ≡ number_or_zero c.args.number = c.unwrap_or.ensures ∙ number_is c.args.number in
     let refused : c.from_residual-in_err-start.result ≡ Err c.in_err-start.field-0.0 = search rules in
-    let result : as_begun c.start.result ≡ c.from_residual-in_err-start.result =
+    let result : as_begun c.start_open.result ≡ c.from_residual-in_err-start.result =
     ap as_begun c.in_err-start.was ∙ sym refused in
-    let done : IsBegunBy old new c.args.queue.0 c.args.client c.unwrap_or.result c.args.call (as_begun c.start.result)
+    let done : IsBegunBy old new c.args.queue.0 c.args.client c.unwrap_or.result c.args.call (as_begun c.start_open.result)
     (answer_to c.args.self.now c.args.queue.0 c.args.client c.args.number) =
-    begun_if_runs old new c.args.queue.0 c.args.client c.unwrap_or.result c.args.call c.start.result
+    begun_if_runs old new c.args.queue.0 c.args.client c.unwrap_or.result c.args.call c.start_open.result
     (answer_to c.args.self.now c.args.queue.0 c.args.client c.args.number) runs
-    (started_by old.broker new.broker c.args.queue.0 c.args.client c.unwrap_or.result c.args.call c.start.result
-    c.start.ensures.act
-    c.start.ensures.beside)
+    (started_by old.broker new.broker c.args.queue.0 c.args.client c.unwrap_or.result c.args.call c.start_open.result
+    c.start_open.ensures.act
+    c.start_open.ensures.beside)
     refl in
     let answers : Result (Option Reply) Refusal = answer_to c.args.self.now c.args.queue.0 c.args.client c.args.number in
     subst (λ (s : Sessioned). IsBegunBy s new c.args.queue.0 c.args.client (number_or_zero c.args.number) c.args.call c.from_residual-in_err-start.result answers) c.self.view_is
@@ -40,23 +41,23 @@ returns-in_err-start-clause-begun c =
 
 pub returns-in_err-start-clause-goes_on : goal.returns-in_err-start-clause-goes_on
 returns-in_err-start-clause-goes_on c =
-    let old : Sessioned = record { broker = c.self.inside.broker; kept = c.self.inside.kept } in
-    let new : Sessioned = record { broker = c.start.new.self; kept = c.self.inside.kept } in
+    let old : Sessioned = session_view c.self.inside in
+    let new : Sessioned = record { broker = c.start_open.new.self; kept = c.self.inside.kept } in
     subst (λ (s : Sessioned). SessionGoesOn s new) c.self.view_is
     (goes_on_kept old new refl
-    (laid_out_act (λ w. after_start (is_no_memory c.start.result) w c.args.client c.unwrap_or.result c.args.call)
-    (λ w. (start_alike (is_no_memory c.start.result) w c.args.client c.unwrap_or.result c.args.call).0)
-    old.broker new.broker c.args.queue.0 c.args.client c.start.ensures.act.world c.start.ensures.beside.others))
+    (laid_out_act (λ w. after_start (is_no_memory c.start_open.result) w c.args.client c.unwrap_or.result c.args.call)
+    (λ w. (start_alike (is_no_memory c.start_open.result) w c.args.client c.unwrap_or.result c.args.call).0)
+    old.broker new.broker c.args.queue.0 c.args.client c.start_open.ensures.act.world c.start_open.ensures.beside.others))
 
 pub returns-clause-goes_on : goal.returns-clause-goes_on
 returns-clause-goes_on c =
-    let old : Sessioned = record { broker = c.self.inside.broker; kept = c.self.inside.kept } in
-    let new : Sessioned = record { broker = c.start.new.self; kept = c.self.inside.kept } in
+    let old : Sessioned = session_view c.self.inside in
+    let new : Sessioned = record { broker = c.start_open.new.self; kept = c.self.inside.kept } in
     subst (λ (s : Sessioned). SessionGoesOn s new) c.self.view_is
     (goes_on_kept old new refl
-    (laid_out_act (λ w. after_start (is_no_memory c.start.result) w c.args.client c.unwrap_or.result c.args.call)
-    (λ w. (start_alike (is_no_memory c.start.result) w c.args.client c.unwrap_or.result c.args.call).0)
-    old.broker new.broker c.args.queue.0 c.args.client c.start.ensures.act.world c.start.ensures.beside.others))
+    (laid_out_act (λ w. after_start (is_no_memory c.start_open.result) w c.args.client c.unwrap_or.result c.args.call)
+    (λ w. (start_alike (is_no_memory c.start_open.result) w c.args.client c.unwrap_or.result c.args.call).0)
+    old.broker new.broker c.args.queue.0 c.args.client c.start_open.ensures.act.world c.start_open.ensures.beside.others))
 
 pub returns-in_err-reply-clause-promises : goal.returns-in_err-reply-clause-promises
 returns-in_err-reply-clause-promises c = numbers_shown _ _ c.self.invariant c.self.view_is
@@ -72,22 +73,22 @@ returns-in-Some-clause-reply c =
 
 pub invariant_of-self : goal.invariant_of-self
 invariant_of-self c =
-    started_right c.self.inside.broker c.start.new.self c.args.queue.0 c.args.client c.unwrap_or.result c.args.call
-    c.self.inside.kept (as_begun c.start.result) c.self.invariant c.start.ensures.promises.well
-    (started_by c.self.inside.broker c.start.new.self c.args.queue.0 c.args.client c.unwrap_or.result c.args.call
-    c.start.result c.start.ensures.act
-    c.start.ensures.beside)
+    started_right c.self.inside.broker c.start_open.new.self c.args.queue.0 c.args.client c.unwrap_or.result c.args.call
+    c.self.inside.kept (as_begun c.start_open.result) c.self.invariant c.start_open.ensures.promises.well
+    (started_by c.self.inside.broker c.start_open.new.self c.args.queue.0 c.args.client c.unwrap_or.result c.args.call
+    c.start_open.result c.start_open.ensures.act
+    c.start_open.ensures.beside)
 
 pub returns-in_err-start-clause-promises : goal.returns-in_err-start-clause-promises
 returns-in_err-start-clause-promises c = numbers_kept _ (invariant_of-self c)
 
 pub invariant_of-self-2 : goal.invariant_of-self-2
 invariant_of-self-2 c =
-    started_right c.self.inside.broker c.start.new.self c.args.queue.0 c.args.client c.unwrap_or.result c.args.call
-    c.self.inside.kept (as_begun c.start.result) c.self.invariant c.start.ensures.promises.well
-    (started_by c.self.inside.broker c.start.new.self c.args.queue.0 c.args.client c.unwrap_or.result c.args.call
-    c.start.result c.start.ensures.act
-    c.start.ensures.beside)
+    started_right c.self.inside.broker c.start_open.new.self c.args.queue.0 c.args.client c.unwrap_or.result c.args.call
+    c.self.inside.kept (as_begun c.start_open.result) c.self.invariant c.start_open.ensures.promises.well
+    (started_by c.self.inside.broker c.start_open.new.self c.args.queue.0 c.args.client c.unwrap_or.result c.args.call
+    c.start_open.result c.start_open.ensures.act
+    c.start_open.ensures.beside)
 
 pub returns-clause-promises : goal.returns-clause-promises
 returns-clause-promises c = numbers_kept _ (invariant_of-self-2 c)
@@ -99,10 +100,10 @@ pub returns-in-Some-clause-queues : goal.returns-in-Some-clause-queues
 returns-in-Some-clause-queues c = broker_stays _
 
 pub returns-in_err-start-clause-queues : goal.returns-in_err-start-clause-queues
-returns-in_err-start-clause-queues c = queues_on _ _ _ c.self.view_is c.start.ensures.goes_on
+returns-in_err-start-clause-queues c = queues_on _ _ _ c.self.view_is c.start_open.ensures.goes_on
 
 pub returns-clause-queues : goal.returns-clause-queues
-returns-clause-queues c = queues_on _ _ _ c.self.view_is c.start.ensures.goes_on
+returns-clause-queues c = queues_on _ _ _ c.self.view_is c.start_open.ensures.goes_on
 
 pub returns-in_err-reply-clause-stale : goal.returns-in_err-reply-clause-stale
 returns-in_err-reply-clause-stale c = λ is.
@@ -115,19 +116,19 @@ returns-in_err-reply-clause-stale c = λ is.
 
 pub returns-in_err-start-clause-stale : goal.returns-in_err-start-clause-stale
 returns-in_err-start-clause-stale c = λ is.
-    let old : Sessioned = record { broker = c.self.inside.broker; kept = c.self.inside.kept } in
+    let old : Sessioned = session_view c.self.inside in
     let answer : answer_to c.args.self.now c.args.queue.0 c.args.client c.args.number ≡ Ok None = search rules in
     let runs : answer_to old c.args.queue.0 c.args.client c.args.number ≡ Ok None =
     ap (λ (s : Sessioned). answer_to s c.args.queue.0 c.args.client c.args.number) c.self.view_is ∙ answer in
     let number : c.unwrap_or.result ≡ number_or_zero c.args.number = c.unwrap_or.ensures ∙ number_is c.args.number in
     let refused : c.from_residual-in_err-start.result ≡ Err c.in_err-start.field-0.0 = search rules in
-    let result : as_begun c.start.result ≡ c.from_residual-in_err-start.result =
+    let result : as_begun c.start_open.result ≡ c.from_residual-in_err-start.result =
     ap as_begun c.in_err-start.was ∙ sym refused in
-    begun_above old (numbers_kept old c.self.invariant) c.args.queue.0 c.args.client c.args.number runs c.start.new.self
-    c.args.call (as_begun c.start.result)
-    (subst (λ (n : ℕ). IsStarted c.self.inside.broker c.start.new.self c.args.queue.0 c.args.client n c.args.call
-    (as_begun c.start.result)) number
-    (started_by c.self.inside.broker c.start.new.self c.args.queue.0 c.args.client c.unwrap_or.result c.args.call
-    c.start.result c.start.ensures.act
-    c.start.ensures.beside))
+    begun_above old (numbers_kept old c.self.invariant) c.args.queue.0 c.args.client c.args.number runs c.start_open.new.self
+    c.args.call (as_begun c.start_open.result)
+    (subst (λ (n : ℕ). IsStarted c.self.inside.broker c.start_open.new.self c.args.queue.0 c.args.client n c.args.call
+    (as_begun c.start_open.result)) number
+    (started_by c.self.inside.broker c.start_open.new.self c.args.queue.0 c.args.client c.unwrap_or.result c.args.call
+    c.start_open.result c.start_open.ensures.act
+    c.start_open.ensures.beside))
     (result ∙ is)

@@ -2,6 +2,7 @@ use Rattle.std.proofs.Common.{◌≡◌, Result, Ok, Err, refl, subst}
 use Rattle.std.specs.Prelude.{OnErr}
 use Rattle.words.specs.declared.refusal.Refusal.{Refusal}
 use Rattle.named.specs.Stopping.{IsSameButRoom}
+use Rattle.session.specs.SessionView.{session_view}
 use Rattle.session.specs.Sessions.{IsRight, Sessioned}
 use Rattle.session.proofs.downtime.Crashes.{right_roomier, right_stopped}
 use Rattle.session.proofs.answers.Promises.{numbers_kept}
@@ -10,7 +11,7 @@ use Rattle.session.proofs.session.Session.crash.Goals as goal
 
 pub invariant_of-self : goal.invariant_of-self
 invariant_of-self c =
-    let s : Sessioned = record { broker = c.self.inside.broker; kept = c.self.inside.kept } in
+    let s : Sessioned = session_view c.self.inside in
     let go : (r : Result Unit Refusal) → c.crash.result ≡ r → IsRight (record s { broker = c.crash.new.self }) = elim [
       | Ok u ↦ λ is.
           right_stopped s c.crash.new.self c.self.invariant c.crash.ensures.promises.well (c.crash.ensures.stopped is)

@@ -4,6 +4,7 @@ use Rattle.words.specs.PlainQueue.{Value, FitsValue}
 use Rattle.words.specs.declared.call.Call.TheVariants.{Enq}
 use Rattle.protocol.specs.Machine.{FitsCall}
 use Rattle.interleave.proofs.Facts.{call_fits}
+use Rattle.session.specs.SessionView.{session_view}
 use Rattle.session.specs.Keeping.{SessionGoesOn}
 use Rattle.session.specs.Requests.{request_admission}
 use Rattle.session.specs.Sessions.{Sessioned}
@@ -16,7 +17,7 @@ use Rattle.session.proofs.session.Session.plain.Goals as goal
 
 pub returns-clause-goes_on : goal.returns-clause-goes_on
 returns-clause-goes_on c =
-    let old : Sessioned = record { broker = c.self.inside.broker; kept = c.self.inside.kept } in
+    let old : Sessioned = session_view c.self.inside in
     let new : Sessioned = record { broker = c.run.new.broker; kept = c.self.inside.kept } in
     subst (λ (s : Sessioned). SessionGoesOn s new) c.self.view_is
     (goes_on_kept old new refl (laid_out_each c.self.inside.broker c.run.new.broker c.args.queue.0

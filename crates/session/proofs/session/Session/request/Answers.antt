@@ -7,6 +7,7 @@ use Rattle.words.specs.declared.refusal.Refusal.TheVariants.{StaleNumber}
 use Rattle.protocol.specs.Machine.{FitsCall}
 use Rattle.interleave.proofs.Facts.{call_fits}
 use Rattle.interleave.specs.Verdicts.{taken_as}
+use Rattle.session.specs.SessionView.{session_view}
 use Rattle.session.specs.Keeping.{SessionGoesOn}
 use Rattle.session.specs.Numbers.{by_number}
 use Rattle.session.specs.Requests.{IsUnserved, request_admission, request_answer}
@@ -23,7 +24,7 @@ use Rattle.session.proofs.session.Session.request.Goals as goal
 
 pub returns-in_err-reply-2-clause-goes_on : goal.returns-in_err-reply-2-clause-goes_on
 returns-in_err-reply-2-clause-goes_on c =
-    let old : Sessioned = record { broker = c.self.inside.broker; kept = c.self.inside.kept } in
+    let old : Sessioned = session_view c.self.inside in
     let new : Sessioned = record { broker = c.run.new.broker; kept = c.self.inside.kept } in
     subst (λ (s : Sessioned). SessionGoesOn s new) c.self.view_is
     (goes_on_kept old new refl (laid_out_each old.broker new.broker c.args.queue.0
@@ -37,7 +38,7 @@ hear-requires-clause-slot c =
 
 pub returns-clause-goes_on : goal.returns-clause-goes_on
 returns-clause-goes_on c =
-    let old : Sessioned = record { broker = c.self.inside.broker; kept = c.self.inside.kept } in
+    let old : Sessioned = session_view c.self.inside in
     let new : Sessioned = record { broker = c.run.new.broker; kept = c.hear.new.self } in
     let answer : request_answer c.args.self.now c.args.queue.0 c.args.client c.args.number ≡ Ok None = search rules in
     let here : request_answer old c.args.queue.0 c.args.client c.args.number ≡ Ok None =
@@ -122,7 +123,7 @@ returns-in_err-reply-clause-stale c = λ is.
 
 pub returns-in_err-reply-2-clause-stale : goal.returns-in_err-reply-2-clause-stale
 returns-in_err-reply-2-clause-stale c = λ is.
-    let old : Sessioned = record { broker = c.self.inside.broker; kept = c.self.inside.kept } in
+    let old : Sessioned = session_view c.self.inside in
     let refused : c.from_residual-in_err-reply-2.result ≡ Err c.in_err-reply-2.field-0.0 = search rules in
     let same : c.in_err-reply-2.field-0.0 ≡ StaleNumber = cc (refused, is) in
     let answer : request_answer c.args.self.now c.args.queue.0 c.args.client c.args.number ≡ Ok None = search rules in

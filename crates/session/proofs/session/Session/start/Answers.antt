@@ -2,6 +2,7 @@ use Rattle.std.proofs.Common.{refl, subst}
 use Rattle.interleave.specs.Calls.{is_no_memory}
 use Rattle.interleave.specs.State.{after_start}
 use Rattle.named.proofs.Facts.{start_alike}
+use Rattle.session.specs.SessionView.{session_view}
 use Rattle.session.specs.Keeping.{SessionGoesOn}
 use Rattle.session.specs.Requests.{as_begun}
 use Rattle.session.specs.Sessions.{Sessioned}
@@ -27,7 +28,7 @@ returns-clause-queues c = queues_on _ _ _ c.self.view_is c.start.ensures.goes_on
 
 pub returns-clause-goes_on : goal.returns-clause-goes_on
 returns-clause-goes_on c =
-    let old : Sessioned = record { broker = c.self.inside.broker; kept = c.self.inside.kept } in
+    let old : Sessioned = session_view c.self.inside in
     let new : Sessioned = record { broker = c.start.new.self; kept = c.self.inside.kept } in
     subst (λ (s : Sessioned). SessionGoesOn s new) c.self.view_is
     (goes_on_kept old new refl
