@@ -11,3 +11,4 @@ pub use Rattle.named.proofs.creations.Steps.{closed_where_free, is_free}
 pub use Rattle.named.proofs.histories.Rotations.{all_quiet, may_rotate}
 pub use Rattle.named.proofs.promises.Promises.{promises_well}
 pub use Rattle.named.proofs.acts.Comings.{came_further, came_of_itself, came_over_rotation, came_unrotated, queues_came}
+pub use Rattle.named.proofs.acts.Looks.{none_some, open_below}

@@ -21,9 +21,9 @@ use Rattle.interleave.specs.Telling.{IsToldAtReady}
 use Rattle.named.specs.Telling.{TellAtReady}
 use Rattle.named.specs.declared.recovery.BrokerRecovery.{BrokerRecovery}
 use Rattle.named.specs.declared.recovery.BrokerRecovery.TheVariants.{ReadDirectory, RecoverQueue}
-use Rattle.named.proofs.Facts.{listed_open}
+use Rattle.named.proofs.Facts.{listed_open, open_below}
 use Rattle.session.specs.Sessions.{IsUncalled}
-use Rattle.session.proofs.Facts.{open_below, uncalled_booted, uncalled_recovered}
+use Rattle.session.proofs.Facts.{uncalled_booted, uncalled_recovered}
 use Rattle.server.specs.Opening.{IsOpened, IsQueueOpened, Recovers}
 use Rattle.server.specs.Opening.Recovers.{nothing, next}
 use Rattle.server.proofs.StepsKeep.{IsAsKept, IsStepKept, step_keeps}

@@ -18,8 +18,7 @@ use Rattle.named.specs.declared.recovery.BrokerRecovery.{BrokerRecovery}
 use Rattle.named.specs.declared.recovery.BrokerRecovery.TheVariants.{ReadDirectory, RecoverQueue}
 use Rattle.named.specs.declared.slot.Slot.{Slot}
 use Rattle.named.specs.declared.slot.Slot.TheVariants.{Closed, Open}
-use Rattle.named.proofs.Facts.{its_queue, listed_open}
-use Rattle.session.proofs.Facts.{none_some}
+use Rattle.named.proofs.Facts.{its_queue, listed_open, none_some}
 
 -- a queue that is not ready recovers
 recovers_in : (ws : Words) (slot : Slot) (w : State) → IsReadyIn false slot → world_in ws slot ≡ Some w

@@ -21,7 +21,8 @@ use Rattle.named.specs.declared.recovery.BrokerRecovery.{BrokerRecovery}
 use Rattle.session.specs.Keeping.{IsSettled, SessionGoesOn, told_when_asked, verdict_heard}
 use Rattle.session.specs.Promises.{KeepsNumbers}
 use Rattle.session.specs.Sessions.{IsLogClient, Sessioned, kept_at}
-use Rattle.session.proofs.Facts.{holds_there, open_below}
+use Rattle.session.proofs.Facts.{holds_there}
+use Rattle.named.proofs.Facts.{kept_queue, open_below}
 use Rattle.workers.specs.Moments.{IsMomentOf}
 use Rattle.named.specs.KeptQueues.{IsKeptQueue}
 use Rattle.workers.proofs.Facts.{session_further}
@@ -34,7 +35,6 @@ use Rattle.server.specs.Image.{IsOpenedOver}
 use Rattle.server.specs.Opening.{IsOpened, IsQueueOpened}
 use Rattle.server.specs.Restarting.{words_read, AreSettledBy, GoesOnFrom, IsReopenedFrom, IsRestartedFrom, LivesOn}
 use Rattle.server.specs.Restarting.LivesOn.{restarted, within}
-use Rattle.named.proofs.Facts.{kept_queue}
 
 module _ (first session : Sessioned) (kept : List ℕ) (b : Brokered) (m : IsMomentOf first session kept) (o : IsOpened (words_at_rest kept) b) where
   stands : (slot : ℕ) (w : State) → world_at session.broker slot ≡ Some w → IsKeptQueue kept slot w

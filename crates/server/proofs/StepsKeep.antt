@@ -20,8 +20,7 @@ use Rattle.named.specs.Stopping.{found_by}
 use Rattle.interleave.specs.Telling.{IsToldAtReady}
 use Rattle.named.specs.declared.recovery.BrokerRecovery.{BrokerRecovery}
 use Rattle.named.specs.declared.recovery.BrokerRecovery.TheVariants.{ReadDirectory, RecoverQueue}
-use Rattle.named.proofs.Facts.{recovered_shape, world_holds}
-use Rattle.session.proofs.Facts.{none_some}
+use Rattle.named.proofs.Facts.{none_some, recovered_shape, world_holds}
 
 -- a queue is still there, and its kept words hold and tell what they did; no call took effect
 pub record IsAsKept (w : State) (now : Option State) : Type 0 where

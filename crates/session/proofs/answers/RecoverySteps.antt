@@ -25,9 +25,9 @@ use Rattle.session.specs.Sessions.{AreVerdictsRight, IsLogClient, IsRight, IsSlo
 use Rattle.session.proofs.calls.Clients.{laid_out_each}
 use Rattle.session.proofs.downtime.Crashes.{up_same}
 use Rattle.session.proofs.answers.Tellings.{kept_there, right_heard}
-use Rattle.named.proofs.Facts.{recovered_shape}
+use Rattle.named.proofs.Facts.{none_some, recovered_shape}
 use Rattle.session.proofs.downtime.Recoveries.{IsAsFar, IsStepDown, step_down}
-use Rattle.session.proofs.brokers.Worlds.{IsLaidOutAs, client_stays, few_there, laid_out_quiet, none_some, up_there}
+use Rattle.session.proofs.brokers.Worlds.{IsLaidOutAs, client_stays, few_there, laid_out_quiet, up_there}
 
 -- a slot's queue is still there, laid out as it was
 module _ (old new : Brokered) (slot : ℕ) (w : State) (here : world_at old slot ≡ Some w) where

@@ -20,7 +20,8 @@ use Rattle.named.specs.declared.recovery.BrokerRecovery.{BrokerRecovery}
 use Rattle.session.specs.Keeping.{AreKeptAsHeard, told_when_asked, verdict_heard}
 use Rattle.session.specs.Sessions.{IsRight, IsSlotRight, kept_in}
 use Rattle.session.proofs.calls.Slots.{right_as_told, right_if_untold}
-use Rattle.session.proofs.brokers.Worlds.{clients_there, few_there, holds_there, open_below, up_there}
+use Rattle.session.proofs.brokers.Worlds.{clients_there, few_there, holds_there, up_there}
+use Rattle.named.proofs.Facts.{open_below}
 
 -- what a client is told in a world
 abbrev told_at : State → Client → Result Told Refusal

@@ -26,14 +26,14 @@ use Rattle.named.specs.Slots.{acted, world_in}
 use Rattle.named.specs.declared.recovery.BrokerRecovery.{BrokerRecovery}
 use Rattle.named.specs.declared.slot.Slot.{Slot}
 use Rattle.named.specs.declared.slot.Slot.TheVariants.{Closed, Open}
-use Rattle.named.proofs.Facts.{all_quiet, closed_where_free, is_free, may_rotate}
+use Rattle.named.proofs.Facts.{all_quiet, closed_where_free, is_free, may_rotate, none_some}
 use Rattle.session.specs.Sessions.{IsRight, IsSlotRight, Sessioned, is_up, kept_in}
 use Rattle.session.specs.Keeping.{SessionGoesOn}
 use Rattle.session.proofs.calls.SlotCalls.{up_is}
 use Rattle.session.proofs.calls.Clients.{goes_on_kept}
 use Rattle.session.proofs.downtime.Crashes.{right_quiet}
 use Rattle.session.proofs.calls.Slots.{right_if_new, right_if_quiet, right_rotated}
-use Rattle.session.proofs.brokers.Worlds.{holds_there, laid_out_quiet, none_some}
+use Rattle.session.proofs.brokers.Worlds.{holds_there, laid_out_quiet}
 
 -- where the histories may end, nobody calls any queue
 free_to : (down busy : Bool) (c : Option Creation) → Ok tt ≡ (let r : Result Unit Refusal = if down then Err NotReady

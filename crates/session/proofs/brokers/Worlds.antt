@@ -1,12 +1,10 @@
 -- The worlds of a broker that is well: each holds, and all are ready once the broker is. And what it is that a slot's
 -- queue is laid out as it was.
-use Rattle.std.proofs.Common.{◌≡◌, ℕ, ◌<◌, ◌≤◌, true, Option, Some, None, slice_get, sym, ap, subst, ◌∙◌, refl, arith}
-use Rattle.std.proofs.lemmas.Option.{slice_get_within}
+use Rattle.std.proofs.Common.{◌≡◌, ℕ, ◌≤◌, true, Option, Some, None, slice_get, sym, ap, subst, ◌∙◌, refl}
 use Rattle.words.specs.declared.call.Client.{Client}
 use Rattle.words.specs.declared.limits.TheConstants.{MAX_CLIENTS}
 use Rattle.persist.specs.Memory.{Words}
 use Rattle.arena.specs.Shape.{Shape}
-use Rattle.arena.specs.declared.broker.TheConstants.{SLOTS}
 use Rattle.interleave.specs.Holds.{Holds}
 use Rattle.interleave.specs.State.{State}
 use Rattle.interleave.proofs.Facts.{is_none, uncounted}
@@ -15,11 +13,8 @@ use Rattle.named.specs.Slots.{IsReadyIn, world_in}
 use Rattle.named.specs.declared.recovery.BrokerRecovery.{BrokerRecovery}
 use Rattle.named.specs.declared.slot.Slot.{Slot}
 use Rattle.named.specs.declared.slot.Slot.TheVariants.{Closed, Open}
-use Rattle.named.proofs.Facts.{world_holds}
+use Rattle.named.proofs.Facts.{none_some, world_holds}
 use Rattle.session.specs.Sessions.{IsLogClient}
-
-pub none_some : {X : Type 0} {x : X} → None ≡ Some x → ⊥
-none_some e = cc
 
 -- a ready slot's world is ready
 up_in : (ws : Words) (slot : Slot) (w : State) → IsReadyIn true slot → world_in ws slot ≡ Some w → w.recovery ≡ None
@@ -43,15 +38,7 @@ module _ (b : Brokered) (well : IsWell b) (slot : ℕ) (w : State) (here : world
           up_in b.words s w
           (subst (λ (r : Option BrokerRecovery). IsReadyIn (is_ready_at r slot) s) up (well.readiness slot s is)) there
 
-  -- its slot is one of the broker's
-  pub open_below : slot < SLOTS
-  open_below = go (slice_get b.slots slot) refl here
-    where
-      go : (o : Option Slot) → slice_get b.slots slot ≡ o → world_of b.words o ≡ Some w → slot < SLOTS
-      go None is there = absurd (none_some there)
-      go (Some s) is there = omega (arith, slice_get_within b.slots slot s is, well.count)
-
-  -- and it has as many clients as the broker
+  -- it has as many clients as the broker
   pub clients_there : w.shape.clients ≡ b.counts.clients
   clients_there = go (slice_get b.slots slot) refl here
     where

@@ -10,13 +10,13 @@ use Rattle.interleave.specs.State.{State, after_alone, after_start}
 use Rattle.named.specs.Acting.{IsSameBeside}
 use Rattle.named.specs.Brokers.{Brokered, IsWell, admission, answer_at, quiet, world_after, world_at}
 use Rattle.named.specs.Slots.{acted}
-use Rattle.named.proofs.Facts.{alone_alike, start_alike}
+use Rattle.named.proofs.Facts.{alone_alike, open_below, start_alike}
 use Rattle.session.specs.Keeping.{IsSettled, IsKeptNow, SessionGoesOn}
 use Rattle.session.specs.Requests.{IsRun}
 use Rattle.session.specs.Sessions.{Sessioned, kept_at}
 use Rattle.session.proofs.calls.SlotCalls.{answered_at}
 use Rattle.session.proofs.calls.Numbers.{answers_go_on}
-use Rattle.session.proofs.brokers.Worlds.{IsLaidOutAs, client_stays, laid_out_quiet, open_below}
+use Rattle.session.proofs.brokers.Worlds.{IsLaidOutAs, client_stays, laid_out_quiet}
 
 -- a slot's queue is laid out as it was where nothing changed
 pub laid_out_same : (w : State) (was now : Option State) → was ≡ Some w → now ≡ was → IsLaidOutAs w now

@@ -23,7 +23,7 @@ use Rattle.interleave.proofs.Facts.{recalled_after, recalled_last, recalled_none
 use Rattle.interleave.proofs.Facts.{uncounted}
 use Rattle.named.specs.Brokers.{quiet}
 use Rattle.session.specs.Sessions.{AreVerdictsRight, IsSlotRight}
-use Rattle.session.proofs.brokers.Worlds.{none_some}
+use Rattle.named.proofs.Facts.{none_some}
 
 -- nothing but the count of accesses changed
 pub right_if_quiet : (up : Bool) (was now : Option State) (kept : ℕ → Option Verdict) → quiet now ≡ quiet was

@@ -13,10 +13,10 @@ use Rattle.named.specs.Evicting.{is_in_block, world_evicted}
 use Rattle.named.specs.Slots.{acted}
 use Rattle.named.specs.Stopping.{IsSameButRoom, IsStopped}
 use Rattle.named.specs.declared.recovery.BrokerRecovery.{BrokerRecovery}
-use Rattle.named.proofs.Facts.{evict_alike}
+use Rattle.named.proofs.Facts.{evict_alike, none_some}
 use Rattle.session.specs.Sessions.{IsRight, IsSlotRight, Sessioned, is_up, kept_in}
 use Rattle.session.proofs.calls.Slots.{right_down, right_if_quiet, right_unanswered}
-use Rattle.session.proofs.brokers.Worlds.{holds_there, none_some, up_there}
+use Rattle.session.proofs.brokers.Worlds.{holds_there, up_there}
 
 -- a broker that is up has no recovery under way
 pub up_none : (o : Option BrokerRecovery) → not (is_some o) ≡ true → o ≡ None

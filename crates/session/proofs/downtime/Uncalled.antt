@@ -31,11 +31,11 @@ use Rattle.named.specs.declared.recovery.BrokerRecovery.{BrokerRecovery}
 use Rattle.named.specs.declared.recovery.BrokerRecovery.TheVariants.{ReadDirectory, RecoverQueue}
 use Rattle.named.specs.declared.slot.Slot.{Slot}
 use Rattle.named.specs.declared.slot.Slot.TheVariants.{Closed, Open}
-use Rattle.named.proofs.Facts.{evict_alike, recovered_shape}
+use Rattle.named.proofs.Facts.{evict_alike, none_some, open_below, recovered_shape}
 use Rattle.session.specs.Sessions.{HasDurableQueue, IsUncalled}
 use Rattle.session.proofs.brokers.Histories.{world_at_rest}
 use Rattle.session.proofs.calls.Slots.{rested_new, rested_recovered}
-use Rattle.session.proofs.brokers.Worlds.{holds_there, none_some, open_below}
+use Rattle.session.proofs.brokers.Worlds.{holds_there}
 
 -- a world where nobody has called, if it is that of a ready log queue
 abbrev pub IsRestedIf : State → Type 0

@@ -18,9 +18,8 @@ use Rattle.named.specs.Brokers.{Brokered, IsWell, is_creating, is_down, world_at
 use Rattle.named.specs.Renewing.{IsRenewedAt, IsWhyNotRenewedAt, MayRenew}
 use Rattle.named.specs.Rotating.{has_calls_in, rotate_result}
 use Rattle.named.specs.Slots.{IsWhyUnread}
-use Rattle.named.proofs.Facts.{listed_open}
+use Rattle.named.proofs.Facts.{listed_open, open_below}
 use Rattle.session.specs.Sessions.{Sessioned}
-use Rattle.session.proofs.Facts.{open_below}
 use Rattle.workers.specs.Creating.{IsCreationKnown}
 use Rattle.workers.specs.Following.{Guarded, IsGuardedWell}
 use Rattle.workers.specs.Lists.{events_at, events_of}

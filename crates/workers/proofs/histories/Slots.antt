@@ -17,10 +17,9 @@ use Rattle.named.specs.Brokers.{Brokered, IsWell, admission, quiet, world_after,
 use Rattle.named.specs.GoingOn.{IsGoneOn}
 use Rattle.named.specs.Slots.{acted}
 use Rattle.named.specs.declared.recovery.BrokerRecovery.{BrokerRecovery}
-use Rattle.named.proofs.Facts.{on_by_act, on_if_quiet, some_is, world_holds}
+use Rattle.named.proofs.Facts.{none_some, on_by_act, on_if_quiet, some_is, world_holds}
 use Rattle.session.specs.Promises.{IsReplyIn}
 use Rattle.session.specs.Sessions.{Sessioned}
-use Rattle.session.proofs.Facts.{none_some}
 use Rattle.workers.specs.Lists.{events_at, events_of}
 use Rattle.workers.proofs.guard.Acts.{HasNext, IsCarriedFor, IsDownRightly, IsNotOf}
 

@@ -12,8 +12,7 @@ use Rattle.session.proofs.calls.Sessions.{advanced_on, advanced_reply, advanced_
 use Rattle.session.proofs.calls.Sessions.{number_heard}
 use Rattle.session.proofs.calls.SlotCalls.{answered_at}
 use Rattle.session.proofs.answers.Promises.{numbers_kept, numbers_shown}
-use Rattle.session.proofs.brokers.Worlds.{open_below}
-use Rattle.named.proofs.Facts.{broker_stays}
+use Rattle.named.proofs.Facts.{broker_stays, open_below}
 use Rattle.session.proofs.calls.Queues.{queues_on}
 use Rattle.session.proofs.session.Session.advance_noted.Goals as goal
 

@@ -17,8 +17,7 @@ use Rattle.session.proofs.answers.Promises.{numbers_kept, numbers_shown}
 use Rattle.session.proofs.calls.Requests.{kept_reply, run_reply, run_right, runs_admitted, unserved_right}
 use Rattle.session.proofs.calls.Clients.{goes_on_kept, goes_on_kept_now, laid_out_each, laid_out_run, others_run}
 use Rattle.session.proofs.answers.NextNumbers.{answer_runs, answered_below}
-use Rattle.session.proofs.brokers.Worlds.{open_below}
-use Rattle.named.proofs.Facts.{broker_stays}
+use Rattle.named.proofs.Facts.{broker_stays, open_below}
 use Rattle.session.proofs.calls.Queues.{queues_on}
 use Rattle.session.proofs.session.Session.request.Goals as goal
 
