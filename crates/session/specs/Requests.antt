@@ -13,7 +13,7 @@ use Rattle.interleave.specs.Rules.{Rule, stepping}
 use Rattle.interleave.specs.State.{State, IsAnsweredAlone, after_alone, after_start, number_to_start, start_result}
 use Rattle.interleave.specs.Verdicts.{number_under_way, taken_as}
 use Rattle.named.specs.Acting.{IsActAt, IsSameBeside}
-use Rattle.named.specs.Brokers.{Brokered, admission, answer_at, answer_if, room_at, world_after, world_at}
+use Rattle.named.specs.Brokers.{Brokered, answer_at, answer_if, room_at, world_after, world_at}
 use Rattle.session.specs.Numbers.{by_number}
 use Rattle.session.specs.Sessions.{Sessioned, kept_at}
 use Rattle.session.specs.declared.running.TheConstants.{ACTS_OF_A_CALL}

@@ -2,16 +2,13 @@
 use Rattle.std.proofs.Common.{◌≡◌, ℕ, ◌<◌, inl, inr, Bool, true, false, not, is_some, List, Option, Some, None, Result, Ok, Err, slice_get, refl, sym, ap, subst, ◌∙◌}
 use Rattle.std.specs.Prelude.{IsSome, OnErr, OnOk, unwrap_or}
 use Rattle.words.specs.declared.call.Client.{Client}
-use Rattle.words.specs.declared.call.Kind.TheVariants.{Log as log_kind}
-use Rattle.words.specs.declared.call.Reply.{Reply}
 use Rattle.words.specs.declared.refusal.Refusal.{Refusal}
 use Rattle.words.specs.declared.told.Told.{Told}
-use Rattle.words.specs.declared.told.Told.TheVariants.{None as told_none, Verdict as told_verdict, Row as told_row}
+use Rattle.words.specs.declared.told.Told.TheVariants.{None as told_none, Verdict as told_verdict}
 use Rattle.words.specs.declared.told.Verdict.{Verdict}
 use Rattle.arena.specs.Shape.{Shape}
-use Rattle.interleave.specs.Holds.{Holds}
 use Rattle.interleave.specs.Queue.{told_to}
-use Rattle.interleave.specs.Rotation.{IsQuiet, rotate_result as rotate_world}
+use Rattle.interleave.specs.Rotation.{IsQuiet}
 use Rattle.interleave.specs.State.{State, kept_tells}
 use Rattle.interleave.specs.Verdicts.{IsRecalled, kept_told, taken_as, told_as}
 use Rattle.interleave.proofs.Facts.{quiet_at}
@@ -20,7 +17,7 @@ use Rattle.named.specs.Renewing.{BeginsOn, IsRenewedAt, MayRenew}
 use Rattle.named.specs.declared.recovery.BrokerRecovery.{BrokerRecovery}
 use Rattle.recover.specs.declared.recovery.Recovery.{Recovery}
 use Rattle.session.specs.Keeping.{SessionGoesOn}
-use Rattle.session.specs.Sessions.{AreVerdictsRight, IsRight, IsSlotRight, Sessioned, is_up, kept_in}
+use Rattle.session.specs.Sessions.{AreVerdictsRight, IsRight, IsSlotRight, Sessioned, kept_in}
 use Rattle.session.proofs.calls.SlotCalls.{up_is}
 use Rattle.session.proofs.calls.Clients.{goes_on_kept}
 use Rattle.session.proofs.brokers.Histories.{unchanged_right, up_rotates, world_at_rest}

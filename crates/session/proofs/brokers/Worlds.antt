@@ -1,6 +1,6 @@
 -- The worlds of a broker that is well: each holds, and all are ready once the broker is. And what it is that a slot's
 -- queue is laid out as it was.
-use Rattle.std.proofs.Common.{◌≡◌, ℕ, ◌≤◌, true, Option, Some, None, slice_get, sym, ap, subst, ◌∙◌, refl}
+use Rattle.std.proofs.Common.{◌≡◌, ℕ, ◌<◌, ◌≤◌, true, Option, Some, None, slice_get, sym, ap, subst, ◌∙◌, refl}
 use Rattle.words.specs.declared.call.Client.{Client}
 use Rattle.words.specs.declared.limits.TheConstants.{MAX_CLIENTS}
 use Rattle.persist.specs.Memory.{Words}

@@ -20,7 +20,7 @@ use Rattle.interleave.specs.declared.queue.Queue.{Queue}
 use Rattle.interleave.proofs.Facts.{get_set}
 use Rattle.interleave.specs.Rules.{starting, waiting_in}
 use Rattle.named.specs.Acting.{IsActAt, IsSameBeside}
-use Rattle.named.specs.Brokers.{Brokered, IsWell, admission, answer_at, quiet, room_at, world_after, world_at}
+use Rattle.named.specs.Brokers.{Brokered, IsWell, answer_at, quiet, room_at, world_after, world_at}
 use Rattle.named.specs.Slots.{IfWorld, acted}
 use Rattle.named.proofs.Facts.{directory_as_it_was, start_alike}
 use Rattle.named.specs.Looking.{IsOpenTo}
@@ -190,7 +190,7 @@ module _ (old made now : Brokered) (slot : ℕ) (client : Client) (number : ℕ)
   left = left_here old made now slot client number call opened admitted_then refl result tried.act.answers tried.act.world not_refused_memory
 
   -- the slot is open to the client still
-  pub open_now : IsOpenTo now slot client
+  abbrev pub open_now : IsOpenTo now slot client
   open_now = record {
     world = after_start false opened.world client number call;
     here = left;

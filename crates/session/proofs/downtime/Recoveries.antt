@@ -7,10 +7,9 @@ use Rattle.words.specs.declared.told.Verdict.{Verdict}
 use Rattle.arena.specs.Shape.{Shape}
 use Rattle.arena.specs.declared.broker.SlotId.{SlotId}
 use Rattle.recover.specs.Table.{boot_recovery as queue_recovery}
-use Rattle.recover.specs.declared.recovery.Recovery.{Recovery}
 use Rattle.protocol.specs.declared.acts.Act.TheVariants.{Recover}
 use Rattle.interleave.specs.Calls.{is_no_memory}
-use Rattle.interleave.specs.State.{State, after_recover, recover_result, recover_with}
+use Rattle.interleave.specs.State.{State, after_recover, recover_result}
 use Rattle.named.specs.Brokers.{Brokered, IsWell, is_down, quiet, world_at}
 use Rattle.named.specs.Slots.{acted, answered}
 use Rattle.named.specs.Stopping.{IsFound, IsFoundFirst, IsFoundIn, IsQueueOn, IsQueueRecovered, IsRecoveryStep}

@@ -17,15 +17,15 @@ use Rattle.session.proofs.calls.Starts.{begun_if_runs, number_is, started_by}
 use Rattle.session.proofs.calls.Queues.{queues_on}
 use Rattle.session.proofs.session.Session.begin.Goals as goal
 
-pub returns-in_err-start-clause-begun : goal.returns-in_err-start-clause-begun
-returns-in_err-start-clause-begun c =
+pub returns-in_err-start_open-clause-begun : goal.returns-in_err-start_open-clause-begun
+returns-in_err-start_open-clause-begun c =
     let old : Sessioned = session_view c.self.inside in
     let new : Sessioned = record { broker = c.start_open.new.self; kept = c.self.inside.kept } in
     let runs : answer_to c.args.self.now c.args.queue.0 c.args.client c.args.number ≡ Ok None = search rules in
     let number : c.unwrap_or.result ≡ number_or_zero c.args.number = c.unwrap_or.ensures ∙ number_is c.args.number in
-    let refused : c.from_residual-in_err-start.result ≡ Err c.in_err-start.field-0.0 = search rules in
-    let result : as_begun c.start_open.result ≡ c.from_residual-in_err-start.result =
-    ap as_begun c.in_err-start.was ∙ sym refused in
+    let refused : c.from_residual-in_err-start_open.result ≡ Err c.in_err-start_open.field-0.0 = search rules in
+    let result : as_begun c.start_open.result ≡ c.from_residual-in_err-start_open.result =
+    ap as_begun c.in_err-start_open.was ∙ sym refused in
     let done : IsBegunBy old new c.args.queue.0 c.args.client c.unwrap_or.result c.args.call (as_begun c.start_open.result)
     (answer_to c.args.self.now c.args.queue.0 c.args.client c.args.number) =
     begun_if_runs old new c.args.queue.0 c.args.client c.unwrap_or.result c.args.call c.start_open.result
@@ -35,12 +35,12 @@ returns-in_err-start-clause-begun c =
     c.start_open.ensures.beside)
     refl in
     let answers : Result (Option Reply) Refusal = answer_to c.args.self.now c.args.queue.0 c.args.client c.args.number in
-    subst (λ (s : Sessioned). IsBegunBy s new c.args.queue.0 c.args.client (number_or_zero c.args.number) c.args.call c.from_residual-in_err-start.result answers) c.self.view_is
-    (subst (λ (n : ℕ). IsBegunBy old new c.args.queue.0 c.args.client n c.args.call c.from_residual-in_err-start.result answers) number
+    subst (λ (s : Sessioned). IsBegunBy s new c.args.queue.0 c.args.client (number_or_zero c.args.number) c.args.call c.from_residual-in_err-start_open.result answers) c.self.view_is
+    (subst (λ (n : ℕ). IsBegunBy old new c.args.queue.0 c.args.client n c.args.call c.from_residual-in_err-start_open.result answers) number
     (subst (λ (r : Result (Option Reply) Refusal). IsBegunBy old new c.args.queue.0 c.args.client c.unwrap_or.result c.args.call r answers) result done))
 
-pub returns-in_err-start-clause-goes_on : goal.returns-in_err-start-clause-goes_on
-returns-in_err-start-clause-goes_on c =
+pub returns-in_err-start_open-clause-goes_on : goal.returns-in_err-start_open-clause-goes_on
+returns-in_err-start_open-clause-goes_on c =
     let old : Sessioned = session_view c.self.inside in
     let new : Sessioned = record { broker = c.start_open.new.self; kept = c.self.inside.kept } in
     subst (λ (s : Sessioned). SessionGoesOn s new) c.self.view_is
@@ -79,8 +79,8 @@ invariant_of-self c =
     c.start_open.result c.start_open.ensures.act
     c.start_open.ensures.beside)
 
-pub returns-in_err-start-clause-promises : goal.returns-in_err-start-clause-promises
-returns-in_err-start-clause-promises c = numbers_kept _ (invariant_of-self c)
+pub returns-in_err-start_open-clause-promises : goal.returns-in_err-start_open-clause-promises
+returns-in_err-start_open-clause-promises c = numbers_kept _ (invariant_of-self c)
 
 pub invariant_of-self-2 : goal.invariant_of-self-2
 invariant_of-self-2 c =
@@ -99,8 +99,8 @@ returns-in_err-reply-clause-queues c = broker_stays _
 pub returns-in-Some-clause-queues : goal.returns-in-Some-clause-queues
 returns-in-Some-clause-queues c = broker_stays _
 
-pub returns-in_err-start-clause-queues : goal.returns-in_err-start-clause-queues
-returns-in_err-start-clause-queues c = queues_on _ _ _ c.self.view_is c.start_open.ensures.goes_on
+pub returns-in_err-start_open-clause-queues : goal.returns-in_err-start_open-clause-queues
+returns-in_err-start_open-clause-queues c = queues_on _ _ _ c.self.view_is c.start_open.ensures.goes_on
 
 pub returns-clause-queues : goal.returns-clause-queues
 returns-clause-queues c = queues_on _ _ _ c.self.view_is c.start_open.ensures.goes_on
@@ -114,16 +114,16 @@ returns-in_err-reply-clause-stale c = λ is.
     absurd (answer_to_other c.args.self.now c.args.queue.0 c.args.client c.args.number
     (answer ∙ ap (λ (r : Refusal). Err r) same))
 
-pub returns-in_err-start-clause-stale : goal.returns-in_err-start-clause-stale
-returns-in_err-start-clause-stale c = λ is.
+pub returns-in_err-start_open-clause-stale : goal.returns-in_err-start_open-clause-stale
+returns-in_err-start_open-clause-stale c = λ is.
     let old : Sessioned = session_view c.self.inside in
     let answer : answer_to c.args.self.now c.args.queue.0 c.args.client c.args.number ≡ Ok None = search rules in
     let runs : answer_to old c.args.queue.0 c.args.client c.args.number ≡ Ok None =
     ap (λ (s : Sessioned). answer_to s c.args.queue.0 c.args.client c.args.number) c.self.view_is ∙ answer in
     let number : c.unwrap_or.result ≡ number_or_zero c.args.number = c.unwrap_or.ensures ∙ number_is c.args.number in
-    let refused : c.from_residual-in_err-start.result ≡ Err c.in_err-start.field-0.0 = search rules in
-    let result : as_begun c.start_open.result ≡ c.from_residual-in_err-start.result =
-    ap as_begun c.in_err-start.was ∙ sym refused in
+    let refused : c.from_residual-in_err-start_open.result ≡ Err c.in_err-start_open.field-0.0 = search rules in
+    let result : as_begun c.start_open.result ≡ c.from_residual-in_err-start_open.result =
+    ap as_begun c.in_err-start_open.was ∙ sym refused in
     begun_above old (numbers_kept old c.self.invariant) c.args.queue.0 c.args.client c.args.number runs c.start_open.new.self
     c.args.call (as_begun c.start_open.result)
     (subst (λ (n : ℕ). IsStarted c.self.inside.broker c.start_open.new.self c.args.queue.0 c.args.client n c.args.call
