@@ -83,10 +83,7 @@ impl World {
         Ok(World { core, memory })
     }
 
-    /// Starts a call. It is refused, in this order, where there is no such client (NoClient), where recovery is under
-    /// way (NotReady), where the client has a call under way (Busy), where a log queue finds its number stale
-    /// (StaleNumber), where the client's records are used up (NoRoom), and for want of memory (NoMemory); the last two
-    /// alone make an access. A durable queue ignores the number.
+    /// Starts a call. It is refused as [`Core::start`] is.
     pub fn start(&mut self, client: Client, number: u64, call: Call) -> Result<(), Refusal>
         ensures by_rule { IsByRule (starting client number call) self.old result self.new }
         ensures goes_on { GoesOnExplained self.old.now self.new.now }
@@ -97,9 +94,8 @@ impl World {
         self.core.start_in(&mut self.memory, client, number, call)
     }
 
-    /// One step of a client's call: exactly one access. It answers the reply where that was the last. It is
-    /// refused, in this order, where there is no such client (NoClient), where recovery is under way (NotReady), where
-    /// it has no call (Idle), and for want of memory (NoMemory).
+    /// One step of a client's call: exactly one access. It answers the reply where that was the last. It is refused as
+    /// [`Core::step`] is.
     pub fn step(&mut self, client: Client) -> Result<Option<Reply>, Refusal>
         ensures by_rule { IsByRule (stepping client) self.old result self.new }
         ensures goes_on { GoesOnExplained self.old.now self.new.now }
@@ -108,8 +104,8 @@ impl World {
         self.core.step_in(&mut self.memory, client)
     }
 
-    /// The environment keeps a word. It is no access, takes no memory, and may make a call take effect. It is refused
-    /// where there is no such word (NoWord).
+    /// The environment keeps a word. It is no access, takes no memory, and may make a call take effect. It is refused as
+    /// [`Core::evict`] is.
     pub fn evict(&mut self, word: usize) -> Result<Option<Change>, Refusal>
         ensures by_rule { IsByRule (evicting word) self.old result self.new }
         ensures goes_on { GoesOnExplained self.old.now self.new.now }
@@ -122,7 +118,7 @@ impl World {
     }
 
     /// The whole system stops: what is not kept is lost, calls under way end without an answer, and recovery begins
-    /// anew, also where it was under way. It is refused for want of memory alone (NoMemory), and then nothing changed.
+    /// anew, also where it was under way. It is refused as [`Core::crash`] is, and then nothing changed.
     pub fn crash(&mut self) -> Result<(), Refusal>
         ensures by_rule { IsByRule crashing self.old result self.new }
         ensures goes_on { GoesOnExplained self.old.now self.new.now }
@@ -136,8 +132,7 @@ impl World {
     }
 
     /// One step of recovery: exactly one access. It answers whether the queue is ready now, and then each client is
-    /// told what became of its last call. It is refused, in this order, where no recovery is under way (AlreadyReady),
-    /// and for want of memory (NoMemory).
+    /// told what became of its last call. It is refused as [`Core::recover_step`] is.
     pub fn recover_step(&mut self) -> Result<bool, Refusal>
         ensures by_rule { IsByRule recovering self.old result self.new }
         ensures goes_on { GoesOnExplained self.old.now self.new.now }
@@ -154,8 +149,7 @@ impl World {
 
     /// The history ends, and another begins: its base is what the kept words hold and tell, so that a log queue's
     /// clients are told of their last announced calls by the base, and it has no events yet. Words and floors of
-    /// numbers stay. It is refused, in this order, where recovery is under way (NotReady), where a call is (Busy), and
-    /// for want of memory (NoMemory), and then nothing changed.
+    /// numbers stay. It is refused as [`Core::rotate`] is, and then nothing changed.
     pub fn rotate(&mut self) -> Result<(), Refusal>
         ensures world { self.new.now ≡ after_rotate (is_no_memory result) self.old.now }
         ensures result { result ≡ rotate_result (is_no_memory result) self.old.now }
@@ -241,9 +235,7 @@ impl World {
     }
 
     /// A client's call goes on alone until it answers: its reply, and how many steps that took, at most
-    /// [`MAX_STEPS_ALONE`] from wherever it waits. It is refused, in this order, where there is no such client
-    /// (NoClient), where recovery is under way (NotReady), where it has no call (Idle), and, before its first step, for
-    /// want of memory (NoMemory).
+    /// [`MAX_STEPS_ALONE`] from wherever it waits. It is refused as [`Core::run_alone`] is.
     pub fn run_alone(&mut self, client: Client) -> Result<(Reply, u32), Refusal>
         ensures alone { IsByAlone client self.old result self.new }
         ensures goes_on { GoesOnExplained self.old.now self.new.now }
