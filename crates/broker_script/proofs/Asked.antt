@@ -34,14 +34,14 @@ start_unmade w client call refusal (Ok number) false is refused =
     absurd (cc (made))
 
 unmade_in : (client : Client) (number : ℕ) (call : Call) (refusal : Refusal) (o : Option State)
-    → answered (λ w. start_result false w client number) o ≡ Err refusal
+    → answered (λ w. start_result false w client number call) o ≡ Err refusal
     → quiet (acted (λ w. after_start false w client number call) o) ≡ quiet o
 unmade_in client number call refusal None refused = refl
 unmade_in client number call refusal (Some w) refused =
-    start_unmade w client call refusal (number_to_start w client number) (used_by w client == w.shape.records) refl refused
+    start_unmade w client call refusal (number_to_start w client number call) (used_by w client == w.shape.records) refl refused
 
 unmade_at : (client : Client) (number : ℕ) (call : Call) (refusal : Refusal) (a : Result Unit Refusal) (o : Option State)
-    → answer_if a (answered (λ w. start_result false w client number) o) ≡ Err refusal
+    → answer_if a (answered (λ w. start_result false w client number call) o) ≡ Err refusal
     → quiet (if is_ok a then acted (λ w. after_start false w client number call) o else o) ≡ quiet o
 unmade_at client number call refusal (Err other) o refused = refl
 unmade_at client number call refusal (Ok u) o refused = unmade_in client number call refusal o refused

@@ -132,7 +132,7 @@ pub start_left : (old new : Brokered) (slot : ℕ) (client : Client) (number : �
 start_left old new slot client number call well well_now world beside =
     let f : State → State = λ w. after_start true w client number call in
     beside_one slot old new well well_now beside (ap quiet world
-    ∙ quiet_after f (λ w. start_quiet w client call (number_to_start w client number)) (is_ok (admission old client)) (world_at old slot))
+    ∙ quiet_after f (λ w. start_quiet w client call (number_to_start w client number call)) (is_ok (admission old client)) (world_at old slot))
 
 start_refused : (old new : Brokered) (slot : ℕ) (client : Client) (number : ℕ) (call : Call)
     → IsWell old → IsWell new → IsActAt (starting client number call) slot client old (Err NoMemory) new

@@ -14,9 +14,10 @@ use Rattle.arena.specs.Shape.{shape_of}
 use Rattle.arena.specs.declared.broker.TheConstants.{SLOTS}
 use Rattle.directory.specs.Directory.{HasQueue}
 use Rattle.directory.specs.declared.queue.Queue.{Queue}
-use Rattle.interleave.specs.Calls.{idle_result, is_no_memory, waiting_result}
+use Rattle.interleave.specs.Calls.{is_no_memory, waiting_result}
 use Rattle.interleave.specs.Rules.{Rule, starting, stepping}
-use Rattle.interleave.specs.State.{State, new_world, after_start, after_step, is_down as is_world_down, number_of_idle, start_result, start_result_with, start_with, step_result, step_result_with, step_with}
+use Rattle.interleave.proofs.Facts.{unstarted_by_nobody}
+use Rattle.interleave.specs.State.{State, new_world, after_start, after_step, is_down as is_world_down, start_result, start_result_with, start_with, step_result, step_result_with, step_with}
 use Rattle.protocol.specs.declared.UnderWay.{UnderWay}
 use Rattle.named.specs.Acting.{IsActAt}
 use Rattle.named.specs.Brokers.{Brokered, IsWell, admission, answer_if, answer_at, has_client, world_at, world_of}
@@ -114,17 +115,14 @@ had_memory (Err NoMemory) other = absurd (other refl)
 had_memory (Err _) other = refl
 
 -- what a start of no client comes to, in the world itself
-no_start : (w : State) (client : Client) (number : ℕ) → slice_get w.calls client.0 ≡ None
-    → start_result false w client number ≡ Err NoClient
-no_start w client number none =
-    ap (λ (o : Option (Option UnderWay)).
-    start_result_with false w client (number_of_idle w.queue client number (idle_result (is_world_down w) o))) none
+no_start : (w : State) (client : Client) (number : ℕ) (call : Call) → slice_get w.calls client.0 ≡ None
+    → start_result false w client number call ≡ Err NoClient
+no_start w client number call none = ap (start_result_with false w client) (unstarted_by_nobody w client number call none)
 
 no_start_left : (w : State) (client : Client) (number : ℕ) (call : Call) → slice_get w.calls client.0 ≡ None
     → after_start false w client number call ≡ w
 no_start_left w client number call none =
-    ap (λ (o : Option (Option UnderWay)).
-    start_with false w client call (number_of_idle w.queue client number (idle_result (is_world_down w) o))) none
+    ap (start_with false w client call) (unstarted_by_nobody w client number call none)
 
 no_step : (w : State) (client : Client) → slice_get w.calls client.0 ≡ None → step_result false w client ≡ Err NoClient
 no_step w client none =
@@ -153,7 +151,7 @@ by_start slot client number call old result new false is act well ready there_is
     let none = no_place old well slot (the_world old slot) there_is client is in
     let both = away (starting client number call) slot client old result new act (not_admitted old client is) in
     record {
-      answers = both.0 ∙ sym (no_start (the_world old slot) client number none);
+      answers = both.0 ∙ sym (no_start (the_world old slot) client number call none);
       world = both.1 ∙ there_is ∙ ap Some (sym (no_start_left (the_world old slot) client number call none));
     }
 

@@ -102,7 +102,7 @@ impl Player {
         requires ready { self.old.broker.recovery ≡ None }
         requires open { IsSome (world_at self.old.broker slot.0) }
         ensures answer { HadMemory result
-            → result ≡ start_result false (the_world self.old.broker slot.0) client number }
+            → result ≡ start_result false (the_world self.old.broker slot.0) client number call }
         ensures play { HadMemory result → IsLeftByStartIn self.old slot.0 client number call self.new }
         ensures put_off { result ≡ Err Refusal.NoMemory → IsPutOff self.old self.new }
         ensures only { IsOnlyIn slot.0 self.old self.new }

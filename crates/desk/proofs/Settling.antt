@@ -2,7 +2,7 @@
 use Rattle.std.proofs.Common.{◌≡◌, ℕ, List, Option, Some, None, refl, sym, subst, inl, inr}
 use Rattle.std.specs.Prelude.{IfSome, IsNone, IsTrue}
 use Rattle.words.specs.declared.refusal.Refusal.{Refusal}
-use Rattle.words.specs.declared.refusal.Refusal.TheVariants.{Busy, Gap, NoClient, NoMemory, NoQueue, NoRoom, NotReady, Old, StaleNumber, WrongKind}
+use Rattle.words.specs.declared.refusal.Refusal.TheVariants.{Busy, Gap, NoClient, NoQueue, NotReady, Old, StaleNumber, WrongKind}
 use Rattle.words.specs.declared.call.Client.{Client}
 use Rattle.words.specs.declared.call.Reply.{Reply as AnyReply}
 use Rattle.wire.specs.declared.answer.Answer.{Answer as WireAnswer}
@@ -50,15 +50,13 @@ told_fits clients first name client _ why = absurd why
 refusal_fits : (first : Sessioned) (list : List Entry) (r : Call) (refusal : Refusal)
     → IsWhyRefused first list r refusal → IsTrue (is_call_refusal refusal)
 refusal_fits first list r Busy why = refl
-refusal_fits first list r NoMemory why = refl
-refusal_fits first list r NotReady why = refl
 refusal_fits first list r NoQueue why = refl
 refusal_fits first list r WrongKind why = refl
 refusal_fits first list r Old why = refl
 refusal_fits first list r Gap why = refl
 refusal_fits first list r StaleNumber why = refl
-refusal_fits first list r NoRoom why = refl
-refusal_fits first list r _ why = absurd why
+refusal_fits first list r NoClient why = absurd why
+refusal_fits first list r _ why = why
 
 pub wire_fits : (first : Sessioned) (list : List Entry) (r : Call) (given : Answer)
     → IfNotMade given (IsWhyRefused first list r) → IsTrue (is_call_answer (answer_on_wire given))

@@ -54,7 +54,7 @@ by_recovery w None = refl
 by_recovery w (Some r) = accessed (at_word w.shape (recovery_access w.shape.kind r.at)) w.words
 
 after_act_size : (w : State) (act : Act ℕ) → length (after_act w act).words.kept ≡ length w.words.kept
-after_act_size w (Start client number call) = by_number w client call (number_to_start w client number)
+after_act_size w (Start client number call) = by_number w client call (number_to_start w client number call)
 after_act_size w (Step client) = by_waiting w client (waiting_result (is_down w) (slice_get w.calls client.0))
 after_act_size w (Evict word) = by_place w word (place_at w.shape word)
 after_act_size w Crash = refl

@@ -5,6 +5,8 @@ pub use Rattle.interleave.proofs.words.Requests.{asked_recovered}
 pub use Rattle.interleave.proofs.words.Requests.{asked_same, asked_started, asked_stepped}
 pub use Rattle.interleave.proofs.recovery.Downtime.{became_ready, some_left}
 pub use Rattle.interleave.proofs.machine.Holding.{call_fits, explained_world, holds_after_crash, holds_after_recover}
+pub use Rattle.interleave.proofs.machine.Starts.{IsTaken, IsWhyUnstarted, stale_start, startable, taken}
+pub use Rattle.interleave.proofs.machine.Starts.{unstarted_by_nobody, why_unstarted}
 pub use Rattle.interleave.proofs.machine.Holding.{holds_after_start, is_none, no_call, part_after_crash}
 pub use Rattle.interleave.proofs.machine.Holding.{part_after_recover}
 pub use Rattle.interleave.proofs.machine.Holding.{recovered_is, recovery_next, recovery_reads, waiting_is}
@@ -26,7 +28,7 @@ pub use Rattle.interleave.proofs.verdicts.Given.{last_new, none_above, one_reply
 pub use Rattle.interleave.proofs.verdicts.Given.{rested_at_ready}
 pub use Rattle.interleave.proofs.verdicts.Last.{IsGiven, answered, last_after, rested_after}
 pub use Rattle.interleave.proofs.verdicts.Recalled.{base_stays, recalled_after, reply_on}
-pub use Rattle.interleave.proofs.verdicts.Alone.{answered_alone, last_alone, recalled_alone}
+pub use Rattle.interleave.proofs.verdicts.Alone.{answered_alone, last_alone, number_of_log, recalled_alone}
 pub use Rattle.interleave.proofs.verdicts.Settled.{base_below, settled}
 pub use Rattle.interleave.proofs.order.Rotations.{quiet_at}
 pub use Rattle.interleave.proofs.machine.Acts.{act_adds_one}

@@ -38,7 +38,7 @@ ready_events_by w (Some r) = ready_events (next_recovery (machine w) r)
 
 abbrev pub event_of : State → Act ℕ → List Event
 event_of w (Start client number call) =
-    call_events (start_result false w client number) (number_to_start w client number) client call
+    call_events (start_result false w client number call) (number_to_start w client number call) client call
 event_of w (Step client) = return_events (step_result false w client) client
 event_of w (Evict word) = []
 event_of w Crash = crash_event ∷ []

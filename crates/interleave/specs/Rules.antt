@@ -24,7 +24,7 @@ pub record Rule (A : Type 0) : Type 0 where
 abbrev pub starting : Client → ℕ → Call → Rule Unit
 starting client number call = record {
   leaves = λ full w. after_start full w client number call;
-  answers = λ full w. start_result full w client number;
+  answers = λ full w. start_result full w client number call;
 }
 
 abbrev pub stepping : Client → Rule (Option Reply)

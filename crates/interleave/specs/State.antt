@@ -6,7 +6,7 @@ use Rattle.words.specs.declared.call.Client.{Client}
 use Rattle.words.specs.declared.call.Reply.{Reply}
 use Rattle.words.specs.declared.told.Told.{Told}
 use Rattle.words.specs.declared.refusal.Refusal.{Refusal}
-use Rattle.words.specs.declared.refusal.Refusal.TheVariants.{NoRoom, NoMemory, NoWord, AlreadyReady}
+use Rattle.words.specs.declared.refusal.Refusal.TheVariants.{AlreadyReady, Busy, NoClient, NoMemory, NoRoom, NoWord, NotReady, StaleNumber}
 use Rattle.persist.specs.Changes.{change_of}
 use Rattle.persist.specs.declared.access.Change.{Change}
 use Rattle.persist.specs.Memory.{Words, words_after_access, zero_words, words_after_eviction, words_after_crash}
@@ -109,13 +109,13 @@ after_call_began w client number call = record {
 }
 
 -- why a start is refused, the first reason that applies, or the number that the call has in the history
-abbrev pub number_of_idle : Queue → Client → ℕ → Result Unit Refusal → Result ℕ Refusal
-number_of_idle queue client number (Err refusal) = Err refusal
-number_of_idle queue client number (Ok u) = number_check queue client number
+abbrev pub number_of_idle : Queue → Client → ℕ → Call → Result Unit Refusal → Result ℕ Refusal
+number_of_idle queue client number call (Err refusal) = Err refusal
+number_of_idle queue client number call (Ok u) = number_check queue client number
 
-abbrev pub number_to_start : State → Client → ℕ → Result ℕ Refusal
-number_to_start w client number =
-    number_of_idle w.queue client number (idle_result (is_down w) (slice_get w.calls client.0))
+abbrev pub number_to_start : State → Client → ℕ → Call → Result ℕ Refusal
+number_to_start w client number call =
+    number_of_idle w.queue client number call (idle_result (is_down w) (slice_get w.calls client.0))
 
 -- a client whose records are used up begins nothing, nor does one for which there is no memory (`full`)
 abbrev pub start_with : Bool → State → Client → Call → Result ℕ Refusal → State
@@ -132,10 +132,27 @@ start_result_with full w client (Ok number) =
 
 -- what a start leaves, and what it answers
 abbrev pub after_start : Bool → State → Client → ℕ → Call → State
-after_start full w client number call = start_with full w client call (number_to_start w client number)
+after_start full w client number call = start_with full w client call (number_to_start w client number call)
 
-abbrev pub start_result : Bool → State → Client → ℕ → Result Unit Refusal
-start_result full w client number = start_result_with full w client (number_to_start w client number)
+abbrev pub start_result : Bool → State → Client → ℕ → Call → Result Unit Refusal
+start_result full w client number call = start_result_with full w client (number_to_start w client number call)
+
+-- what one that is accepted found: the queue is ready, the client has no call under way, and the queue takes its number
+-- for this one
+pub record IsStartable (w : State) (client : Client) (number n : ℕ) : Type 0 where
+  pub up : is_down w ≡ false
+  pub idle : slice_get w.calls client.0 ≡ Some None
+  pub taken : number_check w.queue client number ≡ Ok n
+
+-- whether one may be refused so
+abbrev pub is_start_refusal : Refusal → Bool
+is_start_refusal NoClient = true
+is_start_refusal NotReady = true
+is_start_refusal Busy = true
+is_start_refusal StaleNumber = true
+is_start_refusal NoRoom = true
+is_start_refusal NoMemory = true
+is_start_refusal _ = false
 
 abbrev pub queue_left : Queue → UnderWay → After Op Reply → Queue
 queue_left queue u (More op) = queue
@@ -254,7 +271,7 @@ after_attempt full w Recover = after_recover full w
 
 -- whether the act is accepted then
 abbrev pub is_accepted_with : Bool → State → Act ℕ → Bool
-is_accepted_with full w (Start client number call) = is_ok (start_result full w client number)
+is_accepted_with full w (Start client number call) = is_ok (start_result full w client number call)
 is_accepted_with full w (Step client) = is_ok (step_result full w client)
 is_accepted_with full w (Evict word) = is_ok (evict_result w word)
 is_accepted_with full w Crash = is_ok (crash_result full)

@@ -101,8 +101,8 @@ module _ (old new : Sessioned) where
         | inl full ↦ subst (λ (e : Refusal). IsTrue (is_call_refusal e)) (sym full.0) refl
         | inr refused ↦
             subst (λ (r : Result Unit Refusal). Within is_call_refusal r) refused.0
-            (act_within is_call_refusal (λ w. start_result false w client number) old.broker slot client refl refl refl
-            (λ w. unbegun (start_result false w client number) (start_within false w client number)))
+            (act_within is_call_refusal (λ w. start_result false w client number call) old.broker slot client refl refl refl
+            (λ w. unbegun (start_result false w client number call) (start_within false w client number call)))
       ]
 
   served_within : (slot : ℕ) (client : Client) (number : ℕ) (call : Call) (result : Result Reply Refusal)

@@ -1,24 +1,20 @@
 -- Which refusals the calls of a session get.
-use Rattle.std.proofs.Common.{◌+◌, ℕ, true, false, Option, Some, None, Result, Ok, Err, refl, slice_get}
-use Rattle.std.specs.Prelude.{◌==◌, Bool, IfErr, IsTrue, is_some, nat_lt, slice_index, if◌then◌else◌}
+use Rattle.std.proofs.Common.{◌+◌, ℕ, true, false, Option, Some, None, Result, Ok, Err, refl}
+use Rattle.std.specs.Prelude.{◌==◌, Bool, IfErr, IsTrue, is_some, nat_lt, if◌then◌else◌}
+use Rattle.words.specs.declared.call.Call.{Call}
 use Rattle.words.specs.declared.call.Client.{Client}
 use Rattle.words.specs.declared.call.Kind.{Kind}
 use Rattle.words.specs.declared.call.Kind.TheVariants.{Durable as durable_kind, Log as log_kind}
 use Rattle.words.specs.declared.refusal.Refusal.{Refusal}
-use Rattle.words.specs.declared.refusal.Refusal.TheVariants.{Busy, Gap, NoClient, NoMemory}
-use Rattle.words.specs.declared.refusal.Refusal.TheVariants.{NoQueue, NoRoom, NotReady, Old, StaleNumber, WrongKind}
+use Rattle.words.specs.declared.refusal.Refusal.TheVariants.{Busy, Gap, NoClient}
+use Rattle.words.specs.declared.refusal.Refusal.TheVariants.{NoQueue, NotReady, Old, StaleNumber, WrongKind}
 use Rattle.words.specs.declared.told.Outcome.{Outcome}
 use Rattle.words.specs.declared.told.Outcome.TheVariants.{NotTaken, Taken}
 use Rattle.words.specs.declared.told.Verdict.{Verdict}
-use Rattle.interleave.specs.Calls.{idle_result}
-use Rattle.interleave.specs.Queue.{number_check}
-use Rattle.interleave.specs.State.{State, is_down, number_of_idle, number_to_start, start_result, start_result_with, used_by}
+use Rattle.interleave.specs.State.{State, start_result}
 use Rattle.interleave.specs.Verdicts.{number_under_way}
-use Rattle.interleave.specs.declared.queue.Queue.{Queue as ClientsQueue}
-use Rattle.interleave.specs.declared.queue.Queue.TheVariants.{Durable, Log}
+use Rattle.interleave.proofs.Facts.{IsWhyUnstarted, why_unstarted}
 use Rattle.named.specs.Brokers.{Brokered, admission, answer_at, answer_if, has_client, world_at}
-use Rattle.logqueue.specs.Numbers.{is_stale}
-use Rattle.protocol.specs.declared.UnderWay.{UnderWay}
 use Rattle.named.specs.Brokers.{is_down as is_broker_down}
 use Rattle.named.specs.Slots.{answered}
 use Rattle.session.specs.Numbers.{by_last, by_number, by_outcome, missed}
@@ -96,37 +92,22 @@ request_comes_within s slot client None =
     (request_within durable_kind s.broker slot client) tt
 
 -- a start
-idle_within : (down : Bool) (call : Option (Option UnderWay)) → Within is_call_refusal (idle_result down call)
-idle_within down None = refl
-idle_within true (Some call) = refl
-idle_within false (Some None) = tt
-idle_within false (Some (Some u)) = refl
+call_refused : (w : State) (client : Client) (number : ℕ) (refusal : Refusal)
+    → IsWhyUnstarted w client number refusal → IsTrue (is_call_refusal refusal)
+call_refused w client number NoClient why = refl
+call_refused w client number Busy why = refl
+call_refused w client number StaleNumber why = refl
+call_refused w client number NoQueue why = refl
+call_refused w client number WrongKind why = refl
+call_refused w client number Old why = refl
+call_refused w client number Gap why = refl
+call_refused w client number _ why = why
 
-check_within : (queue : ClientsQueue) (client : Client) (number : ℕ) → Within is_call_refusal (number_check queue client number)
-check_within (Durable told) client number = tt
-check_within (Log clients) client number =
-    chosen is_call_refusal (is_stale (slice_index clients.floors client.0) number) (Err StaleNumber) (Ok number) refl tt
-
-number_of_idle_within : (queue : ClientsQueue) (client : Client) (number : ℕ) (idle : Result Unit Refusal)
-    → Within is_call_refusal idle → Within is_call_refusal (number_of_idle queue client number idle)
-number_of_idle_within queue client number (Err refusal) why = why
-number_of_idle_within queue client number (Ok u) why = check_within queue client number
-
-begun_within : (r : Result Unit Refusal) → Within is_call_refusal r → Within is_call_refusal (as_begun r)
-begun_within (Ok u) why = tt
-begun_within (Err refusal) why = why
-
-started_within : (full : Bool) (w : State) (client : Client) (number : Result ℕ Refusal) → Within is_call_refusal number
-    → Within is_call_refusal (as_begun (start_result_with full w client number))
-started_within full w client (Err refusal) why = why
-started_within full w client (Ok number) why =
-    begun_within (start_result_with full w client (Ok number))
-    (chosen is_call_refusal (used_by w client == w.shape.records) (Err NoRoom) _ refl
-    (chosen is_call_refusal full (Err NoMemory) (Ok tt) refl tt))
-
-pub start_within : (full : Bool) (w : State) (client : Client) (number : ℕ)
-    → Within is_call_refusal (as_begun (start_result full w client number))
-start_within full w client number =
-    started_within full w client (number_to_start w client number)
-    (number_of_idle_within w.queue client number (idle_result (is_down w) (slice_get w.calls client.0))
-    (idle_within (is_down w) (slice_get w.calls client.0)))
+pub start_within : (full : Bool) (w : State) (client : Client) (number : ℕ) (call : Call)
+    → Within is_call_refusal (as_begun (start_result full w client number call))
+start_within full w client number call =
+    go (start_result full w client number call) (why_unstarted full w client number call)
+  where
+    go : (r : Result Unit Refusal) → IfErr r (IsWhyUnstarted w client number) → Within is_call_refusal (as_begun r)
+    go (Ok u) why = tt
+    go (Err refusal) why = call_refused w client number refusal why

@@ -35,7 +35,7 @@ by_recovery w None = refl
 by_recovery w (Some r) = refl
 
 pub after_act_shape : (w : State) (act : Act ℕ) → (after_act w act).shape ≡ w.shape
-after_act_shape w (Start client number call) = by_number w client call (number_to_start w client number)
+after_act_shape w (Start client number call) = by_number w client call (number_to_start w client number call)
 after_act_shape w (Step client) = by_waiting w client (waiting_result (is_down w) (slice_get w.calls client.0))
 after_act_shape w (Evict word) = by_place w word (place_at w.shape word)
 after_act_shape w Crash = refl

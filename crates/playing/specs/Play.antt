@@ -27,7 +27,7 @@ steps_with client steps (Err refusal) = steps
 abbrev pub play_after_start : Play → Client → ℕ → Call → Play
 play_after_start play client number call = record {
   world = after_start false play.world client number call;
-  steps = steps_with client play.steps (start_result false play.world client number);
+  steps = steps_with client play.steps (start_result false play.world client number call);
 }
 
 -- a step of a client's call

@@ -1,6 +1,8 @@
 -- The lines of a world that follows a script.
 use Rattle.std.specs.Prelude.{◌≡◌, ◌≢◌, ℕ, All, false, zero, suc, List, [], ◌∷◌, ◌++◌, Option, Some, None, is_some, Result, Ok, Err, length, slice_get, slice_index}
 use Rattle.std.specs.List.{flat_map}
+use Rattle.words.specs.declared.call.Call.{Call}
+use Rattle.words.specs.declared.call.Call.TheVariants.{Enq as enq_call, Deq as deq_call}
 use Rattle.words.specs.declared.call.Client.{Client}
 use Rattle.words.specs.declared.call.Reply.{Reply}
 use Rattle.words.specs.declared.refusal.Refusal.{Refusal}
@@ -30,8 +32,9 @@ abbrev pub start_line : Command → Result Unit Refusal → Line
 start_line command (Ok u) = call_line command
 start_line command (Err refusal) = refused_line refusal
 
-abbrev pub start_lines : Play → Command → Client → ℕ → List Line
-start_lines play command client number = start_line command (start_result false play.world client number) ∷ []
+abbrev pub start_lines : Play → Command → Client → ℕ → Call → List Line
+start_lines play command client number call =
+    start_line command (start_result false play.world client number call) ∷ []
 
 -- up to so many steps of a client's call give the answer of the one that answers, or why one was refused
 abbrev pub lines_then : Client → ℕ → Result (Option Reply) Refusal → List Line → List Line
@@ -99,10 +102,11 @@ order_lines events entries = order_line (length entries) ∷ flat_map (entry_lin
 
 -- what a command gives
 abbrev pub command_lines : Play → Command → List Line
-command_lines play (Enq client value) = start_lines play (Enq client value) client 0
-command_lines play (NumberedEnq client number value) = start_lines play (NumberedEnq client number value) client number
-command_lines play (Deq client) = start_lines play (Deq client) client 0
-command_lines play (NumberedDeq client number) = start_lines play (NumberedDeq client number) client number
+command_lines play (Enq client value) = start_lines play (Enq client value) client 0 (enq_call value)
+command_lines play (NumberedEnq client number value) =
+    start_lines play (NumberedEnq client number value) client number (enq_call value)
+command_lines play (Deq client) = start_lines play (Deq client) client 0 deq_call
+command_lines play (NumberedDeq client number) = start_lines play (NumberedDeq client number) client number deq_call
 command_lines play (Step client most) = step_lines client most play
 command_lines play (End client) = step_lines client most_alone play
 command_lines play (Evict word) = evict_line word (evict_result play.world word) ∷ []

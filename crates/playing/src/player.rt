@@ -54,7 +54,7 @@ impl Player {
     ) -> Result<(), Refusal>
         ensures play { OnOk result (self.new ≡ play_after_start self.old client number call) }
         ensures lines { OnOk result (lines.new.items
-            ≡ lines.old.items ++ start_lines self.old command.now client number) }
+            ≡ lines.old.items ++ start_lines self.old command.now client number call) }
         ensures errors { IfErr result (λ e. e ≡ Refusal.NoMemory) }
     {
         match self.world.start(client, number, call) {

@@ -10,7 +10,7 @@ use Rattle.words.specs.declared.refusal.Refusal.{Refusal}
 use Rattle.words.specs.declared.refusal.Refusal.TheVariants.{Busy, NoMemory, WrongKind}
 use Rattle.words.specs.declared.told.Verdict.{Verdict}
 use Rattle.interleave.specs.Rules.{Rule, stepping}
-use Rattle.interleave.specs.State.{State, IsAnsweredAlone, after_alone, after_start, number_to_start, start_result}
+use Rattle.interleave.specs.State.{IsAnsweredAlone, IsStartable, State, after_alone, after_start, start_result}
 use Rattle.interleave.specs.Verdicts.{number_under_way, taken_as}
 use Rattle.named.specs.Acting.{IsActAt, IsSameBeside}
 use Rattle.named.specs.Brokers.{Brokered, answer_at, answer_if, room_at, world_after, world_at}
@@ -62,7 +62,7 @@ as_begun (Err refusal) = Err refusal
 abbrev pub beginning : Client → ℕ → Call → Rule (Option Reply)
 beginning client number call = record {
   leaves = λ full w. after_start full w client number call;
-  answers = λ full w. as_begun (start_result full w client number);
+  answers = λ full w. as_begun (start_result full w client number call);
 }
 
 -- the client's call was started, or refused as a start is
@@ -90,14 +90,14 @@ abbrev pub AreAdmittedTaken : Sessioned → Type 0
 AreAdmittedTaken s =
     (slot : ℕ) (w : State) (client : Client) (number : ℕ) → world_at s.broker slot ≡ Some w
     → request_answer s slot client number ≡ Ok None → number ≤ MAX_CALL_NUMBER
-    → number_to_start w client number ≡ Ok number
+    → IsStartable w client number number
 
 -- the client's call was started, and went on alone until it answered
 pub record IsServed (old new : Brokered) (slot : ℕ) (client : Client) (number : ℕ) (call : Call) (reply : Reply)
     : Type 0 where
   pub world : State
   pub was : world_at old slot ≡ Some world
-  pub started : start_result false world client number ≡ Ok tt
+  pub started : start_result false world client number call ≡ Ok tt
   pub steps : ℕ
   pub few : steps ≤ MAX_STEPS_ALONE
   pub answered : IsAnsweredAlone (after_start false world client number call) client steps reply
@@ -109,7 +109,7 @@ pub record IsServed (old new : Brokered) (slot : ℕ) (client : Client) (number 
 abbrev pub IsUnserved : Brokered → Brokered → ℕ → Client → ℕ → Call → Refusal → Type 0
 IsUnserved old new slot client number call refusal =
     ((refusal ≡ NoMemory) × (room_at old slot < ACTS_OF_A_CALL) × ((at : ℕ) → world_at new at ≡ world_at old at))
-    ⊎ ((answer_at (λ w. start_result false w client number) old slot client ≡ Err refusal)
+    ⊎ ((answer_at (λ w. start_result false w client number call) old slot client ≡ Err refusal)
     × (world_at new slot ≡ world_after (λ w. after_start false w client number call) old slot client))
 
 abbrev pub IsRun : Brokered → Brokered → ℕ → Client → ℕ → Call → Result Reply Refusal → Type 0

@@ -11,6 +11,7 @@ use Rattle.words.specs.declared.refusal.Refusal.TheVariants.{NoQueue, NoRoom, No
 use Rattle.arena.specs.declared.broker.SlotId.{SlotId}
 use Rattle.directory.specs.Directory.{HasName, HasQueue, IsNamed}
 use Rattle.directory.specs.declared.queue.Queue.{Queue}
+use Rattle.interleave.specs.State.{is_start_refusal}
 use Rattle.named.specs.Brokers.{is_down}
 use Rattle.session.specs.Keeping.{IsSettled}
 use Rattle.session.specs.Requests.{number_or_zero}
@@ -34,17 +35,11 @@ is_creation_refusal _ = false
 
 -- whether a call may be
 abbrev pub is_call_refusal : Refusal → Bool
-is_call_refusal Busy = true
-is_call_refusal NoMemory = true
-is_call_refusal NoClient = true
-is_call_refusal NotReady = true
 is_call_refusal NoQueue = true
 is_call_refusal WrongKind = true
 is_call_refusal Old = true
 is_call_refusal Gap = true
-is_call_refusal StaleNumber = true
-is_call_refusal NoRoom = true
-is_call_refusal _ = false
+is_call_refusal refusal = is_start_refusal refusal
 
 -- the kind of queue that a call is for: a log queue, if it has a number
 abbrev pub kind_asked : Option ℕ → Kind
@@ -58,18 +53,17 @@ HadOtherKind first r =
 
 -- Why a call may be refused, as far as that is so for good, where the session was this one when the seats were given,
 -- and the seat has this list. Busy: the seat has an open call, if the broker was ready then. NoQueue, WrongKind: there
--- was no queue of the name then, or one of the other kind. Of a client that there is not no seat is given
+-- was no queue of the name then, or one of the other kind. Of a client that there is not no seat is given. For any other
+-- reason that its queue has, as it has no room or is not ready, it may be refused at any time
 abbrev pub IsWhyRefused : Sessioned → List Entry → Request → Refusal → Type 0
 IsWhyRefused first list r Busy = is_down first.broker ≡ false → ends_open list ≡ true
-IsWhyRefused first list r NoMemory = Unit {0}
-IsWhyRefused first list r NotReady = Unit {0}
 IsWhyRefused first list r NoQueue = HasName first.broker.directory r.name → ⊥
 IsWhyRefused first list r WrongKind = HadOtherKind first r
 IsWhyRefused first list r Old = IsSome r.number
 IsWhyRefused first list r Gap = IsSome r.number
 IsWhyRefused first list r StaleNumber = MAX_CALL_NUMBER < number_or_zero r.number
-IsWhyRefused first list r NoRoom = Unit {0}
-IsWhyRefused first list r _ = ⊥
+IsWhyRefused first list r NoClient = ⊥
+IsWhyRefused first list r refusal = is_start_refusal refusal ≡ true
 
 -- the client's number was settled with this reply, in the queue of this name, when the session was this one
 pub record WasSettled (first : Sessioned) (client : Client) (r : Request) (reply : Reply) : Type 0 where

@@ -88,7 +88,7 @@ recover_makes w None = no_access w.words
 recover_makes w (Some r) = one_access w.shape (recovery_access w.shape.kind r.at) w.words
 
 pub act_makes_one : (w : State) (act : Act ℕ) → act ≢ Crash → MakesOneAccess w.words (after_act w act).words
-act_makes_one w (Start client number call) other = start_makes w client call (number_to_start w client number)
+act_makes_one w (Start client number call) other = start_makes w client call (number_to_start w client number call)
 act_makes_one w (Step client) other = step_makes w client (waiting_result (is_down w) (slice_get w.calls client.0))
 act_makes_one w (Evict word) other = evict_makes w word (place_at w.shape word)
 act_makes_one w Crash other = absurd (other refl)
@@ -135,7 +135,7 @@ recover_adds w (Some r) = go (next_recovery (machine w) r)
     go (Ready told) = refl
 
 pub act_adds_one : (w : State) (act : Act ℕ) → (after_act w act).log.events ≡ w.log.events ++ event_of w act
-act_adds_one w (Start client number call) = start_adds w client call (number_to_start w client number)
+act_adds_one w (Start client number call) = start_adds w client call (number_to_start w client number call)
 act_adds_one w (Step client) = step_adds w client (waiting_result (is_down w) (slice_get w.calls client.0))
 act_adds_one w (Evict word) = evict_adds w word (place_at w.shape word)
 act_adds_one w Crash = refl

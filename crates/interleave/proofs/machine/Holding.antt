@@ -13,7 +13,6 @@ use Rattle.words.specs.declared.call.Call.{Call}
 use Rattle.words.specs.declared.call.Call.TheVariants.{Enq, Deq}
 use Rattle.words.specs.declared.call.Client.{Client}
 use Rattle.words.specs.declared.refusal.Refusal.{Refusal}
-use Rattle.words.specs.declared.refusal.Refusal.TheVariants.{StaleNumber}
 use Rattle.logqueue.specs.Numbers.{is_stale}
 use Rattle.words.specs.declared.call.Kind.{Kind}
 use Rattle.words.specs.declared.call.Kind.TheVariants.{Durable as durable_kind, Log as log_kind}
@@ -43,15 +42,15 @@ use Rattle.events.specs.Effects.{entry_of, order_of, settled_effects}
 use Rattle.events.specs.declared.event.Effect.{Effect}
 use Rattle.words.specs.declared.told.Told.{Told}
 use Rattle.words.specs.declared.told.Told.TheVariants.{None as told_none}
-use Rattle.interleave.specs.Calls.{waiting_result, idle_result}
+use Rattle.interleave.specs.Calls.{waiting_result}
 use Rattle.interleave.specs.Floors.{AreFloorsRightIn}
 use Rattle.interleave.specs.Holds.{Holds, IsExplained, Invariant, from_invariant, to_invariant}
-use Rattle.interleave.specs.Queue.{number_check, new_queue, told_in}
+use Rattle.interleave.specs.Queue.{new_queue, told_in}
 use Rattle.interleave.specs.Ranges.{IsOfKind, IsSafe, IfCall}
 use Rattle.interleave.specs.Reuse.{AreAccountedFor}
 use Rattle.interleave.specs.Values.{value_of_place, memory_by_place}
-use Rattle.interleave.specs.State.{State, new_world, machine, is_down, queue_left, after_one_access, after_bump_load}
-use Rattle.interleave.specs.State.{after_call_began, used_by, number_of_idle, number_to_start, start_with, step_with}
+use Rattle.interleave.specs.State.{IsStartable, State, new_world, machine, is_down, queue_left, after_one_access, after_bump_load}
+use Rattle.interleave.specs.State.{after_call_began, used_by, number_to_start, start_with, step_with}
 use Rattle.interleave.specs.State.{evict_with, after_start, after_step, after_evict, after_stop, after_crash}
 use Rattle.interleave.specs.State.{queue_at_ready, after_recovery_step, recover_with, after_recover, order_in}
 use Rattle.interleave.specs.declared.queue.Queue.{Queue}
@@ -65,7 +64,8 @@ use Rattle.protocol.proofs.Facts.{recovery_silent, zero_fits}
 use Rattle.protocol.specs.Acts.{TellsNothing}
 use Rattle.interleave.proofs.machine.Invariants.{agreement}
 use Rattle.interleave.proofs.machine.Effects.{place_of_word}
-use Rattle.interleave.proofs.numbers.Numbers.{IsAboveFloor, above_accepted, numbers_are_once, numbers_begun}
+use Rattle.interleave.proofs.machine.Starts.{IsTaken, startable, taken}
+use Rattle.interleave.proofs.numbers.Numbers.{IsAboveFloor, above_taken, numbers_are_once, numbers_begun}
 use Rattle.interleave.proofs.numbers.Numbers.{numbers_crashed, numbers_evicted, numbers_gone_on, numbers_new}
 use Rattle.interleave.proofs.numbers.Numbers.{numbers_recovered}
 use Rattle.interleave.proofs.numbers.Floors.{floors_crashed, floors_evicted, floors_new, floors_recovered}
@@ -119,22 +119,18 @@ call_fits Deq h = tt
 not_stale : (floor number : ℕ) → is_stale floor number ≡ false → (1 ≤ number) × (number ≤ 1099511627776)
 not_stale floor number h = grind (arith, nat_tests, h)
 
-number_of_queue : (kind : Kind) (queue : Queue) (client : Client) (number n : ℕ) → IsOfKind kind queue → number_check queue client number ≡ Ok n → FitsKind kind n
-number_of_queue durable_kind (Durable told) client number n h e = cc
-number_of_queue log_kind (Log clients) client number n h e = go (is_stale (slice_index clients.floors client.0) number) refl e
-  where
-    go : (b : Bool) → is_stale (slice_index clients.floors client.0) number ≡ b → (let r : Result ℕ Refusal = if b then Err StaleNumber else Ok number in r) ≡ Ok n → FitsKind log_kind n
-    go true s e2 = cc
-    go false s e2 = let same : number ≡ n = cc in subst (FitsKind log_kind) same (not_stale (slice_index clients.floors client.0) number s)
-number_of_queue durable_kind (Log clients) client number n h e = absurd h
-number_of_queue log_kind (Durable told) client number n h e = absurd h
+number_of_queue : (kind : Kind) (queue : Queue) (client : Client) (number n : ℕ) → IsOfKind kind queue
+    → IsTaken queue client number n → FitsKind kind n
+number_of_queue durable_kind (Durable told) client number n h its = its
+number_of_queue log_kind (Log clients) client number n h its =
+    subst (FitsKind log_kind) (sym its.1) (not_stale (slice_index clients.floors client.0) number its.0)
+number_of_queue durable_kind (Log clients) client number n h its = absurd h
+number_of_queue log_kind (Durable told) client number n h its = absurd h
 
-pub number_fits_kind : (kind : Kind) (queue : Queue) (client : Client) (number n : ℕ) (down : Bool) (o : Option (Option UnderWay)) → IsOfKind kind queue → number_of_idle queue client number (idle_result down o) ≡ Ok n
-    → (down ≡ false) × (o ≡ Some None) × FitsKind kind n
-number_fits_kind kind queue client number n down None h e = cc
-number_fits_kind kind queue client number n true (Some call) h e = cc
-number_fits_kind kind queue client number n false (Some None) h e = (refl, refl, number_of_queue kind queue client number n h e)
-number_fits_kind kind queue client number n false (Some (Some u)) h e = cc
+pub number_fits_kind : (w : State) (client : Client) (number n : ℕ) → IsOfKind w.shape.kind w.queue
+    → IsStartable w client number n → FitsKind w.shape.kind n
+number_fits_kind w client number n h found =
+    number_of_queue w.shape.kind w.queue client number n h (taken w.queue client number n found.taken)
 
 get_copies : {X : Type 0} (n t : ℕ) (x : X) → t < n → slice_get (replicate n x) t ≡ Some x
 get_copies zero t x h = absurd (omega (arith, h))
@@ -298,7 +294,7 @@ holds_begun w client number call holds ready idle left number_fits above call_fi
 
 -- whatever a start answers
 pub holds_after_start : (full : Bool) (w : State) (client : Client) (number : ℕ) (call : Call) → Holds w → FitsCall call → Holds (after_start full w client number call)
-holds_after_start full w client number call holds fits = from_check (number_to_start w client number) refl
+holds_after_start full w client number call holds fits = from_check (number_to_start w client number call) refl
   where
     started_if : (n : ℕ) → w.recovery ≡ None → slice_get w.calls client.0 ≡ Some None → FitsKind w.shape.kind n → IsAboveFloor w.queue client n → (no_room : Bool) → (used_by w client == w.shape.records) ≡ no_room → Holds (if no_room then after_bump_load w else (if full then after_bump_load w else after_call_began w client n call))
     started_if n ready idle number_fits above true e = holds_counted w holds
@@ -308,11 +304,13 @@ holds_after_start full w client number call holds fits = from_check (number_to_s
         by_memory true = holds_counted w holds
         by_memory false = holds_begun w client n call holds ready idle (eqb-false _ _ e) number_fits above fits
 
-    from_check : (r : Result ℕ Refusal) → number_to_start w client number ≡ r → Holds (start_with full w client call r)
+    from_check : (r : Result ℕ Refusal) → number_to_start w client number call ≡ r → Holds (start_with full w client call r)
     from_check (Err refusal) e = holds
     from_check (Ok n) e =
-        let found = number_fits_kind w.shape.kind w.queue client number n (is_down w) (slice_get w.calls client.0) holds.kind e in
-        started_if n (is_none w.recovery found.0) found.1 found.2 (above_accepted w.queue client number n (is_down w) (slice_get w.calls client.0) e) (used_by w client == w.shape.records) refl
+        let found = startable w client number n call e in
+        started_if n (is_none w.recovery found.up) found.idle (number_fits_kind w client number n holds.kind found)
+        (above_taken w.queue client number n (taken w.queue client number n found.taken))
+        (used_by w client == w.shape.records) refl
 
 -- whatever a step answers
 pub holds_after_step : (full : Bool) (w : State) (client : Client) → Holds w → Holds (after_step full w client)
@@ -369,7 +367,7 @@ explained_world w holds =
 
 -- nothing that stands in the order is taken back
 pub part_after_start : (full : Bool) (w : State) (client : Client) (number : ℕ) (call : Call) → order_in (after_start full w client number call) ≡ order_in w
-part_after_start full w client number call = from_check (number_to_start w client number)
+part_after_start full w client number call = from_check (number_to_start w client number call)
   where
     from_check : (r : Result ℕ Refusal) → order_in (start_with full w client call r) ≡ order_in w
     from_check (Err refusal) = refl

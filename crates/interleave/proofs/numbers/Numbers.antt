@@ -1,6 +1,6 @@
 -- Each act of a world keeps what is so of its numbers.
-use Rattle.std.proofs.Common.{◌≡◌, ℕ, ◌<◌, Bool, true, false, if◌then◌else◌, List, [], length, Option, Some, None}
-use Rattle.std.proofs.Common.{Result, Ok, Err, replicate, slice_index, slice_set, refl, sym, ap, subst, arith}
+use Rattle.std.proofs.Common.{◌≡◌, ℕ, ◌<◌, Bool, true, false, List, [], length, Option, Some, None}
+use Rattle.std.proofs.Common.{Ok, replicate, slice_index, slice_set, sym, ap, subst, arith}
 use Rattle.std.proofs.lemmas.Bool.Decides.{nat_tests}
 use Rattle.std.proofs.lemmas.List.{length-replicate}
 use Rattle.words.specs.PlainQueue.{Value}
@@ -10,8 +10,6 @@ use Rattle.words.specs.declared.call.Kind.{Kind}
 use Rattle.words.specs.declared.call.Kind.TheVariants.{Durable as durable_kind, Log as log_kind}
 use Rattle.words.specs.declared.call.Reply.{Reply}
 use Rattle.words.specs.declared.limits.TheConstants.{MAX_CLIENTS}
-use Rattle.words.specs.declared.refusal.Refusal.{Refusal}
-use Rattle.words.specs.declared.refusal.Refusal.TheVariants.{StaleNumber}
 use Rattle.words.specs.declared.told.Told.{Told}
 use Rattle.words.specs.declared.told.Told.TheVariants.{None as told_none}
 use Rattle.logqueue.specs.Numbers.{is_stale, told_queue}
@@ -32,16 +30,16 @@ use Rattle.protocol.specs.declared.UnderWay.{UnderWay}
 use Rattle.protocol.specs.invariants.Worlds.{Inv, IsCalling}
 use Rattle.protocol.proofs.Facts.{calling, in_log, is_ready as ready_held, none_at_end}
 use Rattle.interleave.specs.Booted.{queue_at_boot}
-use Rattle.interleave.specs.Calls.{idle_result}
 use Rattle.interleave.specs.Numbers.{AreNumbersOnceIn, AreWithinFloors, AreWithinFloorsIn}
 use Rattle.interleave.specs.Numbers.{NumbersRise, AreNumbersRising, AreNumbersRisingIn}
-use Rattle.interleave.specs.Queue.{number_check, new_queue, told_in}
+use Rattle.interleave.specs.Queue.{new_queue, told_in}
 use Rattle.interleave.specs.Ranges.{IsOfKind}
-use Rattle.interleave.specs.State.{State, machine, order_in, number_of_idle, after_call_began, queue_left}
+use Rattle.interleave.specs.State.{State, machine, order_in, after_call_began, queue_left}
 use Rattle.interleave.specs.State.{after_one_access, evict_with, after_stop, is_ready, queue_at_ready, recover_with}
 use Rattle.interleave.specs.State.{after_recovery_step, recover_result_with, after_recover, recover_result}
 use Rattle.interleave.specs.declared.queue.Queue.{Queue}
 use Rattle.interleave.specs.declared.queue.Queue.TheVariants.{Durable, Log}
+use Rattle.interleave.proofs.machine.Starts.{IsTaken}
 use Rattle.interleave.proofs.order.Entries.{comes_stepped, comes_evicted}
 use Rattle.interleave.proofs.numbers.Uniqueness.{MayAllStand, rise_begun, rise_called, rise_comes, rise_crashed}
 use Rattle.interleave.proofs.numbers.Uniqueness.{rise_returned, rise_ready, numbers_once, within_floors}
@@ -54,26 +52,12 @@ IsAboveFloor (Log clients) client number = slice_index clients.floors client.0 <
 above_stale : (floor number : ℕ) → is_stale floor number ≡ false → floor < number
 above_stale floor number h = grind (arith, nat_tests, h)
 
-above_checked : (queue : Queue) (client : Client) (number n : ℕ) → number_check queue client number ≡ Ok n
+pub above_taken : (queue : Queue) (client : Client) (number n : ℕ) → IsTaken queue client number n
     → IsAboveFloor queue client n
-above_checked (Durable told) client number n e = tt
-above_checked (Log clients) client number n e = go (is_stale (slice_index clients.floors client.0) number) refl e
-  where
-    go : (b : Bool) → is_stale (slice_index clients.floors client.0) number ≡ b
-        → (let r : Result ℕ Refusal = if b then Err StaleNumber else Ok number in r) ≡ Ok n
-        → slice_index clients.floors client.0 < n
-    go true s is = cc
-    go false s is =
-        let same : number ≡ n = cc in
-        subst (λ (m : ℕ). slice_index clients.floors client.0 < m) same
-        (above_stale (slice_index clients.floors client.0) number s)
-
-pub above_accepted : (queue : Queue) (client : Client) (number n : ℕ) (down : Bool) (o : Option (Option UnderWay))
-    → number_of_idle queue client number (idle_result down o) ≡ Ok n → IsAboveFloor queue client n
-above_accepted queue client number n down None e = cc
-above_accepted queue client number n true (Some call) e = cc
-above_accepted queue client number n false (Some None) e = above_checked queue client number n e
-above_accepted queue client number n false (Some (Some u)) e = cc
+above_taken (Durable told) client number n its = tt
+above_taken (Log clients) client number n its =
+    subst (λ (m : ℕ). slice_index clients.floors client.0 < m) (sym its.1)
+    (above_stale (slice_index clients.floors client.0) number its.0)
 
 -- a start
 pub numbers_begun : (w : State) (client : Client) (number : ℕ) (call : Call) → Inv (machine w)

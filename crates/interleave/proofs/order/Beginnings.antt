@@ -27,7 +27,7 @@ begins_on_alike one other = record {
 
 begins_started : (full : Bool) (w : State) (client : Client) (number : ℕ) (call : Call)
     → BeginAlike w (after_start full w client number call)
-begins_started full w client number call = from_check (number_to_start w client number)
+begins_started full w client number call = from_check (number_to_start w client number call)
   where
     from_check : (r : Result ℕ Refusal) → BeginAlike w (start_with full w client call r)
     from_check (Err refusal) = begins_itself_alike w

@@ -99,7 +99,7 @@ grown_by old rest = record { rest = rest; is = refl }
 
 pub grown_by_start : (full : Bool) (w : State) (client : Client) (number : ℕ) (call : Call)
     → IsBeginningOf w.log.events (after_start full w client number call).log.events
-grown_by_start full w client number call = from_check (number_to_start w client number)
+grown_by_start full w client number call = from_check (number_to_start w client number call)
   where
     from_check : (r : Result ℕ Refusal) → IsBeginningOf w.log.events (start_with full w client call r).log.events
     from_check (Err refusal) = begins_itself w.log.events

@@ -175,9 +175,9 @@ begun_in_turn w client number call explained nobody = record {
 
 -- so it is after a start that is accepted
 pub started_in_turn : (full : Bool) (w : State) (client : Client) (number : ℕ) (call : Call) → IsExplained w
-    → start_result full w client number ≡ Ok tt → NobodyCalls w
+    → start_result full w client number call ≡ Ok tt → NobodyCalls w
     → IsInTurn (after_start full w client number call) client call
-started_in_turn full w client number call explained is nobody = from_check (number_to_start w client number) is
+started_in_turn full w client number call explained is nobody = from_check (number_to_start w client number call) is
   where
     from_check : (r : Result ℕ Refusal) → start_result_with full w client r ≡ Ok tt
         → IsInTurn (start_with full w client call r) client call

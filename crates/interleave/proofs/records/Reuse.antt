@@ -1,6 +1,6 @@
 -- What became of the calls that took a record which is taken again.
 use Rattle.std.proofs.Common.{◌≡◌, ◌≢◌, ℕ, ◌+◌, ◌*◌, ◌≤◌, ◌⊎◌, inl, inr, Bool, true, false, if◌then◌else◌, ◌==◌}
-use Rattle.std.proofs.Common.{Some, None, Result, Ok, Err, slice_get, refl, sym, ap, subst, ◌∙◌, arith}
+use Rattle.std.proofs.Common.{Some, None, Result, Ok, Err, refl, sym, ap, subst, ◌∙◌, arith}
 use Rattle.std.proofs.lemmas.Bool.{eqb-false}
 use Rattle.words.specs.declared.call.Call.{Call}
 use Rattle.words.specs.declared.call.Client.{Client}
@@ -24,6 +24,7 @@ use Rattle.interleave.specs.Holds.{Holds, from_invariant}
 use Rattle.interleave.specs.Reuse.{EarlierLeftNothing, IsAccountedFor, IsLost, IsStillCalled}
 use Rattle.interleave.specs.State.{State, machine, order_in, number_to_start, start_result, start_result_with, used_by}
 use Rattle.interleave.proofs.machine.Holding.{is_none, may_start, number_fits_kind}
+use Rattle.interleave.proofs.machine.Starts.{startable}
 
 -- the records of one client differ by their numbers
 same_used : (from used next : ℕ) → 1 + from + used ≡ 1 + from + next → used ≡ next
@@ -106,10 +107,10 @@ earlier_left_nothing w client number call holds may k x at takes = record {
 
 -- so it is where a start is accepted
 pub reused_left_nothing : (full : Bool) (w : State) (client : Client) (number : ℕ) (call : Call) → Holds w
-    → FitsCall call → start_result full w client number ≡ Ok tt → EarlierLeftNothing w client
-reused_left_nothing full w client number call holds fits = from_check (number_to_start w client number) refl
+    → FitsCall call → start_result full w client number call ≡ Ok tt → EarlierLeftNothing w client
+reused_left_nothing full w client number call holds fits = from_check (number_to_start w client number call) refl
   where
-    from_check : (r : Result ℕ Refusal) → number_to_start w client number ≡ r
+    from_check : (r : Result ℕ Refusal) → number_to_start w client number call ≡ r
         → start_result_with full w client r ≡ Ok tt → EarlierLeftNothing w client
     from_check (Err refusal) e is = cc
     from_check (Ok n) e is = room (used_by w client == w.shape.records) refl full is
@@ -120,7 +121,7 @@ reused_left_nothing full w client number call holds fits = from_check (number_to
         room true left b is2 = cc
         room false left true is2 = cc
         room false left false is2 =
-            let found =
-            number_fits_kind w.shape.kind w.queue client number n _ (slice_get w.calls client.0) holds.kind e in
+            let found = startable w client number n call e in
             earlier_left_nothing w client n call holds
-            (may_start w client n call holds (is_none w.recovery found.0) found.1 (eqb-false _ _ left) found.2 fits)
+            (may_start w client n call holds (is_none w.recovery found.up) found.idle (eqb-false _ _ left)
+            (number_fits_kind w client number n holds.kind found) fits)

@@ -11,16 +11,12 @@ use Rattle.protocol.specs.Machine.{next_recovery, recovery_left}
 use Rattle.protocol.specs.Measure.{steps_left_at}
 use Rattle.protocol.specs.declared.UnderWay.{UnderWay}
 use Rattle.words.specs.declared.told.Told.{Told}
-use Rattle.interleave.specs.Calls.{idle_result, waiting_result}
+use Rattle.interleave.specs.Calls.{waiting_result}
 use Rattle.interleave.specs.State.{State, machine, is_down, is_ready, used_by, after_bump_load, after_call_began}
-use Rattle.interleave.specs.State.{after_one_access, number_of_idle, number_to_start, start_with, step_with}
+use Rattle.interleave.specs.State.{after_one_access, number_to_start, start_with, step_with}
 use Rattle.interleave.specs.State.{after_start, after_step, recover_with, recover_result_with, after_recover}
 use Rattle.interleave.specs.State.{recover_result, steps_to_ready}
-use Rattle.interleave.specs.declared.queue.Queue.{Queue}
-
-refused_number : (queue : Queue) (client : Client) (number : ℕ) (o : Option (Option UnderWay)) → (refusal : Refusal) × (number_of_idle queue client number (idle_result true o) ≡ Err refusal)
-refused_number queue client number None = (_, refl)
-refused_number queue client number (Some call) = (_, refl)
+use Rattle.interleave.proofs.machine.Starts.{unstarted_while_down}
 
 refused_step : (o : Option (Option UnderWay)) → (refusal : Refusal) × (waiting_result true o ≡ Err refusal)
 refused_step None = (_, refl)
@@ -29,8 +25,7 @@ refused_step (Some call) = (_, refl)
 -- a start is refused, and changes nothing
 pub start_refused : (full : Bool) (w : State) (client : Client) (number : ℕ) (call : Call) → is_down w ≡ true → after_start full w client number call ≡ w
 start_refused full w client number call down =
-    let r = refused_number w.queue client number (slice_get w.calls client.0) in
-    ap (λ (d : Bool). start_with full w client call (number_of_idle w.queue client number (idle_result d (slice_get w.calls client.0)))) down ∙ ap (start_with full w client call) r.1
+    ap (start_with full w client call) (unstarted_while_down w client number call down).1
 
 -- so is a step
 pub step_refused : (full : Bool) (w : State) (client : Client) → is_down w ≡ true → after_step full w client ≡ w
@@ -40,7 +35,7 @@ step_refused full w client down =
 
 -- neither begins a recovery
 pub start_down : (full : Bool) (w : State) (client : Client) (number : ℕ) (call : Call) → is_down (after_start full w client number call) ≡ is_down w
-start_down full w client number call = go (number_to_start w client number)
+start_down full w client number call = go (number_to_start w client number call)
   where
     go : (r : Result ℕ Refusal) → is_down (start_with full w client call r) ≡ is_down w
     go (Err refusal) = refl

@@ -111,7 +111,7 @@ module _ (w : State) (holds : Holds w) (log : w.shape.kind ≡ log_kind) (client
 
   -- whatever the act
   pub told_after : (full : Bool) (act : Act ℕ) → StaysTold w client (after_attempt full w act)
-  told_after full (Start c number call) = go (number_to_start w c number)
+  told_after full (Start c number call) = go (number_to_start w c number call)
     where
       go : (r : Result ℕ Refusal) → StaysTold w client (start_with full w c call r)
       go (Err refusal) = inl refl

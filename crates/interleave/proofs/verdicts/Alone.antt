@@ -1,6 +1,6 @@
 -- What clients were given, over a call that goes on alone.
 use Rattle.std.proofs.Common.{◌≡◌, ◌≢◌, ℕ, zero, suc, ◌<◌, ◌==◌, Bool, true, false, if◌then◌else◌, Option, Some, None}
-use Rattle.std.proofs.Common.{Result, Ok, Err, slice_get, slice_index, slice_index_or, refl, sym, ap, ◌∙◌, subst, arith}
+use Rattle.std.proofs.Common.{Result, Ok, Err, slice_get, slice_index_or, refl, sym, ap, ◌∙◌, subst, arith}
 use Rattle.std.proofs.lemmas.Grind.{get_or-set_at}
 use Rattle.std.proofs.lemmas.Option.{get_or_from_slice_get, slice_get_within}
 use Rattle.words.specs.declared.call.Call.{Call}
@@ -10,9 +10,8 @@ use Rattle.words.specs.declared.call.Kind.TheVariants.{Log as log_kind}
 use Rattle.words.specs.declared.call.Reply.{Reply}
 use Rattle.words.specs.declared.limits.TheConstants.{MAX_CLIENTS}
 use Rattle.words.specs.declared.refusal.Refusal.{Refusal}
-use Rattle.words.specs.declared.refusal.Refusal.TheVariants.{NoMemory, NoRoom, StaleNumber}
+use Rattle.words.specs.declared.refusal.Refusal.TheVariants.{NoMemory, NoRoom}
 use Rattle.words.specs.declared.told.Verdict.{Verdict}
-use Rattle.logqueue.specs.Numbers.{is_stale}
 use Rattle.arena.specs.Shape.{Shape}
 use Rattle.stepper.specs.declared.resume.After.{After}
 use Rattle.stepper.specs.declared.resume.After.TheVariants.{More, Done}
@@ -21,12 +20,11 @@ use Rattle.protocol.specs.Machine.{begun_of, call_begun, next_of, with_next}
 use Rattle.protocol.specs.declared.UnderWay.{UnderWay}
 use Rattle.protocol.specs.declared.acts.Act.{Act}
 use Rattle.protocol.specs.declared.acts.Act.TheVariants.{Step}
-use Rattle.interleave.specs.Calls.{answer_of, idle_result, waiting_result}
+use Rattle.interleave.specs.Calls.{answer_of, waiting_result}
 use Rattle.interleave.specs.Holds.{Holds}
-use Rattle.interleave.specs.Queue.{number_check}
 use Rattle.interleave.specs.Ranges.{IsOfKind}
 use Rattle.interleave.specs.State.{State, IsAnsweredAlone, machine, after_alone, after_bump_load, after_call_began}
-use Rattle.interleave.specs.State.{after_one_access, after_start, after_step, is_down, number_of_idle, number_to_start}
+use Rattle.interleave.specs.State.{after_one_access, after_start, after_step, is_down, number_to_start}
 use Rattle.interleave.specs.State.{start_result, start_result_with, start_with, step_result, step_result_with}
 use Rattle.interleave.specs.State.{step_with}
 use Rattle.interleave.specs.State.{used_by}
@@ -34,7 +32,8 @@ use Rattle.interleave.specs.Verdicts.{IsLast, IsRecalled, floor_in, number_of_ca
 use Rattle.interleave.specs.declared.queue.Queue.{Queue}
 use Rattle.interleave.specs.declared.queue.Queue.TheVariants.{Durable, Log}
 use Rattle.interleave.proofs.runs.AloneReplies.{holds_alone, unanswered}
-use Rattle.interleave.proofs.machine.Holding.{number_fits_kind, waiting_is}
+use Rattle.interleave.proofs.machine.Holding.{waiting_is}
+use Rattle.interleave.proofs.machine.Starts.{IsTaken, startable, taken}
 use Rattle.interleave.proofs.verdicts.Acts.{floor_below}
 use Rattle.interleave.proofs.verdicts.Last.{IsGiven, answered, last_after}
 use Rattle.interleave.proofs.verdicts.Recalled.{recalled_after}
@@ -148,44 +147,32 @@ module _ (w : State) (holds : Holds w) (log : w.shape.kind ≡ log_kind) (client
       record { last = x.last; reply_of = x.reply_of; idle = x.idle; above = above_floor number has }
 
 -- a start of a log queue's call leaves it under way with its number
-number_checked : (queue : Queue) (client : Client) (number n : ℕ) → IsOfKind log_kind queue
-    → number_check queue client number ≡ Ok n → n ≡ number
-number_checked (Durable told) client number n is e = absurd is
-number_checked (Log clients) client number n is e = go (is_stale (slice_index clients.floors client.0) number) e
-  where
-    go : (b : Bool) → (let r : Result ℕ Refusal = if b then Err StaleNumber else Ok number in r) ≡ Ok n → n ≡ number
-    go true e = cc
-    go false e = cc
-
-number_accepted : (queue : Queue) (client : Client) (number n : ℕ) (down : Bool) (o : Option (Option UnderWay))
-    → IsOfKind log_kind queue → number_of_idle queue client number (idle_result down o) ≡ Ok n → n ≡ number
-number_accepted queue client number n down None is e = cc
-number_accepted queue client number n true (Some call) is e = cc
-number_accepted queue client number n false (Some None) is e = number_checked queue client number n is e
-number_accepted queue client number n false (Some (Some u)) is e = cc
+pub number_of_log : (queue : Queue) (client : Client) (number n : ℕ) → IsOfKind log_kind queue
+    → IsTaken queue client number n → n ≡ number
+number_of_log (Durable told) client number n is its = absurd is
+number_of_log (Log clients) client number n is its = its.1
 
 pub number_started : (full : Bool) (w : State) (client : Client) (number : ℕ) (call : Call) → Holds w
-    → w.shape.kind ≡ log_kind → start_result full w client number ≡ Ok tt
+    → w.shape.kind ≡ log_kind → start_result full w client number call ≡ Ok tt
     → number_under_way (after_start full w client number call) client ≡ Some number
-number_started full w client number call holds log is = go (number_to_start w client number) refl is
+number_started full w client number call holds log is = go (number_to_start w client number call) refl is
   where
     kind : IsOfKind log_kind w.queue
     kind = subst (λ (k : Kind). IsOfKind k w.queue) log holds.kind
 
-    began : (n : ℕ) → number_to_start w client number ≡ Ok n
+    began : (n : ℕ) → number_to_start w client number call ≡ Ok n
         → number_under_way (after_call_began w client n call) client ≡ Some number
     began n e =
-        let idle = (number_fits_kind w.shape.kind w.queue client number n (is_down w) (slice_get w.calls client.0)
-        holds.kind e).1 in
+        let found = startable w client number n call e in
         let now : slice_index_or (after_call_began w client n call).calls client.0 None
         ≡ Some (call_begun (machine w) (begun_of (machine w) client n call)) =
         get_or-set_at w.calls client.0 client.0 (Some (call_begun (machine w) (begun_of (machine w) client n call)))
-        None refl (slice_get_within w.calls client.0 None idle) in
+        None refl (slice_get_within w.calls client.0 None found.idle) in
         ap number_of_call now
         ∙ ap (λ (m : ℕ). Some m)
-        (number_accepted w.queue client number n (is_down w) (slice_get w.calls client.0) kind e)
+        (number_of_log w.queue client number n kind (taken w.queue client number n found.taken))
 
-    go : (r : Result ℕ Refusal) → number_to_start w client number ≡ r → start_result_with full w client r ≡ Ok tt
+    go : (r : Result ℕ Refusal) → number_to_start w client number call ≡ r → start_result_with full w client r ≡ Ok tt
         → number_under_way (start_with full w client call r) client ≡ Some number
     go (Err refusal) e answer = cc
     go (Ok n) e answer = both (used_by w client == w.shape.records) full answer
@@ -201,7 +188,7 @@ number_started full w client number call holds log is = go (number_to_start w cl
 -- so does a call that is started, and then goes on alone to its answer
 pub answered_alone : (full : Bool) (w : State) (client : Client) (number : ℕ) (call : Call) → Holds w
     → w.shape.kind ≡ log_kind → client.0 < MAX_CLIENTS → Holds (after_start full w client number call)
-    → start_result full w client number ≡ Ok tt → (steps : ℕ) (reply : Reply)
+    → start_result full w client number call ≡ Ok tt → (steps : ℕ) (reply : Reply)
     → IsAnsweredAlone (after_start full w client number call) client steps reply
     → IsGiven (after_start full w client number call) client number reply
     (after_alone steps (after_start full w client number call) client)
@@ -210,7 +197,7 @@ answered_alone full w client number call holds log few after is steps reply answ
     (number_started full w client number call holds log is) steps reply answers
   where
     shape : (after_start full w client number call).shape ≡ w.shape
-    shape = go (number_to_start w client number)
+    shape = go (number_to_start w client number call)
       where
         go : (r : Result ℕ Refusal) → (start_with full w client call r).shape ≡ w.shape
         go (Err refusal) = refl

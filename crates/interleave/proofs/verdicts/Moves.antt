@@ -33,7 +33,8 @@ use Rattle.interleave.specs.State.{step_result_with, step_with, used_by}
 use Rattle.interleave.specs.Verdicts.{floor_in}
 use Rattle.interleave.specs.declared.queue.Queue.{Queue}
 use Rattle.interleave.specs.declared.queue.Queue.TheVariants.{Durable, Log}
-use Rattle.interleave.proofs.machine.Holding.{number_fits_kind, ready_if_called, waiting_is}
+use Rattle.interleave.proofs.machine.Holding.{ready_if_called, waiting_is}
+use Rattle.interleave.proofs.machine.Starts.{startable}
 use Rattle.interleave.proofs.verdicts.Acts.{floor_answered, floor_below}
 
 none_some : {X : Type 0} {x : X} → None ≡ Some x → ⊥
@@ -143,14 +144,14 @@ module _ (w : State) (holds : Holds w) (log : w.shape.kind ≡ log_kind) (client
   -- whatever the act, in a queue that is ready before and after
   pub moves : (full : Bool) (act : Act ℕ) → w.recovery ≡ None → (after_attempt full w act).recovery ≡ None
       → IsKept w client (after_attempt full w act) ⊎ IsAnswering w client full act (after_attempt full w act)
-  moves full (Start c number call) up still = inl (go (number_to_start w c number) refl)
+  moves full (Start c number call) up still = inl (go (number_to_start w c number call) refl)
     where
-      go : (r : Result ℕ Refusal) → number_to_start w c number ≡ r → IsKept w client (start_with full w c call r)
+      go : (r : Result ℕ Refusal) → number_to_start w c number call ≡ r → IsKept w client (start_with full w c call r)
       go (Err refusal) e = as_it_was
       go (Ok n) e = both (used_by w c == w.shape.records) full
         where
           idle : slice_get w.calls c.0 ≡ Some None
-          idle = (number_fits_kind w.shape.kind w.queue c number n (is_down w) (slice_get w.calls c.0) holds.kind e).1
+          idle = (startable w c number n call e).idle
 
           both : (a b : Bool) → IsKept w client
               (if a then after_bump_load w else (if b then after_bump_load w else after_call_began w c n call))

@@ -45,7 +45,7 @@ none_some e = cc
 
 -- no act changes what the base told
 pub base_stays : (full : Bool) (w : State) (act : Act ℕ) → (after_attempt full w act).told ≡ w.told
-base_stays full w (Start c number call) = go (number_to_start w c number)
+base_stays full w (Start c number call) = go (number_to_start w c number call)
   where
     go : (r : Result ℕ Refusal) → (start_with full w c call r).told ≡ w.told
     go (Err refusal) = refl

@@ -329,7 +329,7 @@ asked_recovered full w lent requests new holds own here there asked = go full w.
 pub asked_started : (full : Bool) (w : State) (client : Client) (number : ℕ) (call : Call) (requests new : ℕ → Request) → Holds w → ((t : ℕ) → new t ≡ requests t)
     → AreAsked w.shape w.calls w.recovery requests
     → AreAsked (after_start full w client number call).shape (after_start full w client number call).calls (after_start full w client number call).recovery new
-asked_started full w client number call requests new holds same asked = go (number_to_start w client number)
+asked_started full w client number call requests new holds same asked = go (number_to_start w client number call)
   where
     now : AreAsked w.shape w.calls w.recovery new
     now = asked_same w.shape w.calls w.recovery requests new same asked

@@ -19,7 +19,7 @@ abbrev pub IsShapedAlike : State → State → Type 0
 IsShapedAlike old new = (new.shape ≡ old.shape) × (new.recovery ≡ old.recovery)
 
 pub start_alike : (full : Bool) (w : State) (client : Client) (number : ℕ) (call : Call) → IsShapedAlike w (after_start full w client number call)
-start_alike full w client number call = from_check (number_to_start w client number)
+start_alike full w client number call = from_check (number_to_start w client number call)
   where
     from_check : (r : Result ℕ Refusal) → IsShapedAlike w (start_with full w client call r)
     from_check (Err refusal) = (refl, refl)
@@ -33,7 +33,7 @@ start_alike full w client number call = from_check (number_to_start w client num
 
 -- and a start leaves every word
 pub start_kept : (full : Bool) (w : State) (client : Client) (number : ℕ) (call : Call) → (after_start full w client number call).words.kept ≡ w.words.kept
-start_kept full w client number call = from_check (number_to_start w client number)
+start_kept full w client number call = from_check (number_to_start w client number call)
   where
     from_check : (r : Result ℕ Refusal) → (start_with full w client call r).words.kept ≡ w.words.kept
     from_check (Err refusal) = refl

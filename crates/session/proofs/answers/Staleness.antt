@@ -1,6 +1,6 @@
 -- A number that the table of numbers lets run is stale only where it is above the greatest number.
 use Rattle.std.proofs.Common.{◌≡◌, inl, inr, ℕ, ◌+◌, ◌<◌, ◌≤◌, ◌==◌, Bool, true, false, if◌then◌else◌, is_some, Option, None, Some}
-use Rattle.std.proofs.Common.{Result, Ok, Err, slice_get, slice_index, slice_index_or, refl, sym, ap, ◌∙◌, subst, arith}
+use Rattle.std.proofs.Common.{Result, Ok, Err, slice_index, slice_index_or, refl, sym, ap, ◌∙◌, subst, arith}
 use Rattle.std.specs.Prelude.{nat_lt}
 use Rattle.std.proofs.lemmas.Bool.{cases_lt, ltb-true}
 use Rattle.std.proofs.lemmas.Bool.Decides.{nat_tests}
@@ -12,22 +12,22 @@ use Rattle.words.specs.declared.call.Kind.TheVariants.{Durable as durable_kind, 
 use Rattle.words.specs.declared.call.Reply.{Reply}
 use Rattle.words.specs.declared.limits.TheConstants.{MAX_CALL_NUMBER}
 use Rattle.words.specs.declared.refusal.Refusal.{Refusal}
-use Rattle.words.specs.declared.refusal.Refusal.TheVariants.{Busy, Gap, NoClient, NoMemory, NoRoom, NotReady, Old}
+use Rattle.words.specs.declared.refusal.Refusal.TheVariants.{Busy, Gap, NoClient, NotReady, Old}
 use Rattle.words.specs.declared.refusal.Refusal.TheVariants.{StaleNumber, WrongKind}
 use Rattle.words.specs.declared.told.Outcome.{Outcome}
 use Rattle.words.specs.declared.told.Outcome.TheVariants.{NotTaken, Taken}
 use Rattle.words.specs.declared.told.Verdict.{Verdict}
 use Rattle.logqueue.specs.Numbers.{is_stale}
 use Rattle.protocol.specs.declared.UnderWay.{UnderWay}
-use Rattle.interleave.specs.Calls.{idle_result, is_no_memory}
+use Rattle.interleave.specs.Calls.{is_no_memory}
 use Rattle.interleave.specs.Holds.{Holds}
 use Rattle.interleave.specs.Queue.{number_check}
 use Rattle.interleave.specs.Ranges.{IsOfKind}
-use Rattle.interleave.specs.State.{State, is_down, number_of_idle, number_to_start, start_result, start_result_with}
-use Rattle.interleave.specs.State.{used_by}
+use Rattle.interleave.specs.State.{IsStartable, State, start_result}
 use Rattle.interleave.specs.Verdicts.{IsIdle, floor_in, number_of_call, number_under_way}
 use Rattle.interleave.specs.declared.queue.Queue.{Queue}
 use Rattle.interleave.specs.declared.queue.Queue.TheVariants.{Durable, Log}
+use Rattle.interleave.proofs.Facts.{stale_start}
 use Rattle.named.specs.Brokers.{Brokered, admission, answer_if, has_client, world_at}
 use Rattle.named.specs.Slots.{answered}
 use Rattle.named.specs.declared.recovery.BrokerRecovery.{BrokerRecovery}
@@ -107,79 +107,56 @@ module _ (s : Sessioned) (keeps : KeepsNumbers s) (slot : ℕ) (client : Client)
       (answer_runs (request_admission log_kind s.broker slot client) (by_number (kept_at s slot client) number) runs) in
       omega (arith, over, kept.floor)
 
-  accepted_here : number ≤ MAX_CALL_NUMBER → number_to_start w client number ≡ Ok number
-  accepted_here least =
-      ap (λ (r : Result Unit Refusal). number_of_idle w.queue client number r)
-      (ap (λ (d : Bool). idle_result d (slice_get w.calls client.0)) (ap is_some up)
-      ∙ ap (idle_result false) (slice_get-get_or w.calls client.0 None (omega (arith, few, holds.safe.clients))
-      ∙ ap (λ (c : Option UnderWay). Some c) idle))
-      ∙ checked w.queue client number (subst (λ (k : Kind). IsOfKind k w.queue) log holds.kind) above least
+  taken : number ≤ MAX_CALL_NUMBER → number_check w.queue client number ≡ Ok number
+  taken = checked w.queue client number (subst (λ (k : Kind). IsOfKind k w.queue) log holds.kind) above
 
   -- the queue takes it for a call
   pub accepted : (there : State) → world_at s.broker slot ≡ Some there → number ≤ MAX_CALL_NUMBER
-      → number_to_start there client number ≡ Ok number
+      → IsStartable there client number number
   accepted there here least =
-      subst (λ (v : State). number_to_start v client number ≡ Ok number)
-      (some_is (world_at s.broker slot) w there at.here here) (accepted_here least)
+      subst (λ (v : State). IsStartable v client number number) (some_is (world_at s.broker slot) w there at.here here)
+      (record {
+        up = ap is_some up;
+        idle = slice_get-get_or w.calls client.0 None (omega (arith, few, holds.safe.clients))
+            ∙ ap (λ (c : Option UnderWay). Some c) idle;
+        taken = taken least;
+      })
 
   -- so a start that says that it is stale says that it is above the greatest
-  above_greatest : (full : Bool) → start_result full w client number ≡ Err StaleNumber → MAX_CALL_NUMBER < number
-  above_greatest full is = elim (cases_lt MAX_CALL_NUMBER number) [
+  above_greatest : (full : Bool) (call : Call) → start_result full w client number call ≡ Err StaleNumber
+      → MAX_CALL_NUMBER < number
+  above_greatest full call is = elim (cases_lt MAX_CALL_NUMBER number) [
     | inl lt ↦ lt
-    | inr least ↦ absurd (refuses (used_by w client == w.shape.records) full
-        (sym (ap (start_result_with full w client) (accepted_here (omega (arith, least)))) ∙ is))
+    | inr least ↦ absurd (cc (taken (omega (arith, least)), stale_start full w client number call is))
   ]
-    where
-      refuses : (a b : Bool)
-          → (let r : Result Unit Refusal = if a then Err NoRoom else (if b then Err NoMemory else Ok tt) in r)
-          ≡ Err StaleNumber → ⊥
-      refuses true b e = absurd (cc (e))
-      refuses false true e = absurd (cc (e))
-      refuses false false e = absurd (cc (e))
 
   -- a request that runs, and is refused so
   pub unserved_above : (new : Brokered) (call : Call) → IsUnserved s.broker new slot client number call StaleNumber
       → MAX_CALL_NUMBER < number
   unserved_above new call (inl none) = absurd (cc (none.0))
   unserved_above new call (inr refused) =
-      above_greatest false
-      (sym (open_answer (λ v. start_result false v client number) s.broker slot client
+      above_greatest false call
+      (sym (open_answer (λ v. start_result false v client number call) s.broker slot client
       (record { world = w; here = at.here; admitted = at.admitted })) ∙ refused.0)
 
   -- one that is only started, and is refused so
   started_above : (new : Brokered) (call : Call) (result : Result (Option Reply) Refusal)
       → IsStarted s.broker new slot client number call result → result ≡ Err StaleNumber → MAX_CALL_NUMBER < number
   started_above new call result made is =
-      above_greatest (is_no_memory result)
-      (begun_stale (start_result (is_no_memory result) w client number)
-      (sym (open_answer (λ v. as_begun (start_result (is_no_memory result) v client number)) s.broker slot client
+      above_greatest (is_no_memory result) call
+      (begun_stale (start_result (is_no_memory result) w client number call)
+      (sym (open_answer (λ v. as_begun (start_result (is_no_memory result) v client number call)) s.broker slot client
       (record { world = w; here = at.here; admitted = at.admitted })) ∙ sym made.act.answers ∙ is))
 
 -- no start of a durable queue is refused so
-durable_start : (full : Bool) (w : State) (client : Client) → w.shape.kind ≡ durable_kind → IsOfKind w.shape.kind w.queue
-    → start_result full w client 0 ≡ Err StaleNumber → ⊥
-durable_start full w client kind is = queued w.queue (subst (λ (k : Kind). IsOfKind k w.queue) kind is)
+durable_start : (full : Bool) (w : State) (client : Client) (call : Call) → w.shape.kind ≡ durable_kind
+    → IsOfKind w.shape.kind w.queue → start_result full w client 0 call ≡ Err StaleNumber → ⊥
+durable_start full w client call kind is stale =
+    go w.queue (subst (λ (k : Kind). IsOfKind k w.queue) kind is) (stale_start full w client 0 call stale)
   where
-    room : (a b : Bool)
-        → (let r : Result Unit Refusal = if a then Err NoRoom else (if b then Err NoMemory else Ok tt) in r)
-        ≡ Err StaleNumber → ⊥
-    room true b e = absurd (cc (e))
-    room false true e = absurd (cc (e))
-    room false false e = absurd (cc (e))
-
-    idle : (queue : Queue) → IsOfKind durable_kind queue → (down : Bool) (o : Option (Option UnderWay))
-        → start_result_with full w client (number_of_idle queue client 0 (idle_result down o)) ≡ Err StaleNumber → ⊥
-    idle (Log clients) k down o e = absurd k
-    idle (Durable told) k true None e = absurd (cc (e))
-    idle (Durable told) k false None e = absurd (cc (e))
-    idle (Durable told) k true (Some call) e = absurd (cc (e))
-    idle (Durable told) k false (Some None) e = room (used_by w client == w.shape.records) full e
-    idle (Durable told) k false (Some (Some u)) e = absurd (cc (e))
-
-    queued : (queue : Queue) → IsOfKind durable_kind queue
-        → start_result_with full w client (number_of_idle queue client 0 (idle_result (is_down w) (slice_get w.calls client.0)))
-        ≡ Err StaleNumber → ⊥
-    queued queue k = idle queue k (is_down w) (slice_get w.calls client.0)
+    go : (queue : Queue) → IsOfKind durable_kind queue → number_check queue client 0 ≡ Err StaleNumber → ⊥
+    go (Log clients) its e = its
+    go (Durable told) its e = absurd (cc (e))
 
 -- a request that is only started, with a number or without one
 pub begun_above : (s : Sessioned) → KeepsNumbers s → (slot : ℕ) (client : Client) (number : Option ℕ)
@@ -192,10 +169,10 @@ begun_above s keeps slot client None runs new call result made is =
     let at : IsAnsweredAt (queue_admission durable_kind client) s.broker slot client tt =
     answered_at (queue_admission durable_kind client) s.broker slot client tt
     (if_answered (request_admission durable_kind s.broker slot client) (Ok None) None runs) in
-    absurd (durable_start (is_no_memory result) at.world client (admitted_kind durable_kind client at.world at.says)
+    absurd (durable_start (is_no_memory result) at.world client call (admitted_kind durable_kind client at.world at.says)
     (holds_there s.broker keeps.broker.well slot at.world at.here).kind
-    (begun_stale (start_result (is_no_memory result) at.world client 0)
-    (sym (open_answer (λ v. as_begun (start_result (is_no_memory result) v client 0)) s.broker slot client
+    (begun_stale (start_result (is_no_memory result) at.world client 0 call)
+    (sym (open_answer (λ v. as_begun (start_result (is_no_memory result) v client 0 call)) s.broker slot client
     (record { world = at.world; here = at.here; admitted = at.admitted })) ∙ sym made.act.answers ∙ is)))
 
 -- no request is refused so that does not run: by its client and its queue

@@ -12,12 +12,11 @@ use Rattle.persist.specs.Memory.{Words}
 use Rattle.directory.specs.UnderWay.{HaveSameDirectory}
 use Rattle.protocol.specs.Machine.{begun_of, call_begun}
 use Rattle.protocol.specs.declared.UnderWay.{UnderWay}
-use Rattle.interleave.specs.Calls.{idle_result, is_no_memory, waiting_result}
-use Rattle.interleave.specs.State.{State, IsAnsweredAlone, after_alone, after_bump_load, after_call_began, after_start}
-use Rattle.interleave.specs.State.{is_down, machine, number_of_idle, number_to_start, start_result, start_result_with}
+use Rattle.interleave.specs.Calls.{is_no_memory, waiting_result}
+use Rattle.interleave.specs.State.{IsAnsweredAlone, IsStartable, State, after_alone, after_bump_load, after_call_began, after_start}
+use Rattle.interleave.specs.State.{is_down, machine, number_to_start, start_result, start_result_with}
 use Rattle.interleave.specs.State.{start_with, used_by}
-use Rattle.interleave.specs.declared.queue.Queue.{Queue}
-use Rattle.interleave.proofs.Facts.{get_set}
+use Rattle.interleave.proofs.Facts.{get_set, startable}
 use Rattle.interleave.specs.Rules.{starting, waiting_in}
 use Rattle.named.specs.Acting.{IsActAt, IsSameBeside}
 use Rattle.named.specs.Brokers.{Brokered, IsWell, answer_at, quiet, room_at, world_after, world_at}
@@ -27,45 +26,27 @@ use Rattle.named.specs.Looking.{IsOpenTo}
 use Rattle.session.specs.Requests.{IsRun, IsServed}
 use Rattle.session.proofs.calls.Admissions.{alike_further, open_after, open_answer, still_admitted}
 
--- what a start found: a ready queue and a client with no call under way
-pub record IsStartable (w : State) (client : Client) : Type 0 where
-  pub up : is_down w ≡ false
-  pub idle : slice_get w.calls client.0 ≡ Some None
-
-by_idle : (queue : Queue) (client : Client) (number n : ℕ) (down : Bool) (o : Option (Option UnderWay))
-    → number_of_idle queue client number (idle_result down o) ≡ Ok n → (down ≡ false) × (o ≡ Some None)
-by_idle queue client number n true None e = absurd (cc)
-by_idle queue client number n false None e = absurd (cc)
-by_idle queue client number n true (Some call) e = absurd (cc)
-by_idle queue client number n false (Some None) e = (refl, refl)
-by_idle queue client number n false (Some (Some u)) e = absurd (cc)
-
 -- an accepted start leaves the world with the call, of which the client waits
 pub record HasBegun (w : State) (client : Client) (number : ℕ) (call : Call) : Type 0 where
   pub n : ℕ
-  pub startable : IsStartable w client
+  pub startable : IsStartable w client number n
   pub is : after_start false w client number call ≡ after_call_began w client n call
 
-pub begun_by : (w : State) (client : Client) (number : ℕ) (call : Call) → start_result false w client number ≡ Ok tt
+pub begun_by : (w : State) (client : Client) (number : ℕ) (call : Call) → start_result false w client number call ≡ Ok tt
     → HasBegun w client number call
-begun_by w client number call started = go (number_to_start w client number) refl started
+begun_by w client number call started = go (number_to_start w client number call) refl started
   where
-    here : (n : ℕ) → number_to_start w client number ≡ Ok n → IsStartable w client
-    here n e =
-        let parts = by_idle w.queue client number n (is_down w) (slice_get w.calls client.0) e in
-        record { up = parts.0; idle = parts.1 }
-
     used : (n : ℕ) (no_room : Bool) → (if no_room then (let r : Result Unit Refusal = Err NoRoom in r) else Ok tt) ≡ Ok tt
         → (if no_room then after_bump_load w else after_call_began w client n call) ≡ after_call_began w client n call
     used n true ok = absurd (cc)
     used n false ok = refl
 
-    go : (r : Result ℕ Refusal) → number_to_start w client number ≡ r → start_result_with false w client r ≡ Ok tt
+    go : (r : Result ℕ Refusal) → number_to_start w client number call ≡ r → start_result_with false w client r ≡ Ok tt
         → HasBegun w client number call
     go (Err refusal) is ok = absurd (cc)
     go (Ok n) is ok = record {
       n = n;
-      startable = here n is;
+      startable = startable w client number n call is;
       is = ap (start_with false w client call) is ∙ used n (used_by w client == w.shape.records) ok;
     }
 
@@ -75,7 +56,7 @@ waiting down o u up here = ap (λ (d : Bool). waiting_result d o) up ∙ ap (wai
 
 -- so it does not refuse to go on
 pub goes_on_once_started : (w : State) (client : Client) (number : ℕ) (call : Call) (refusal : Refusal)
-    → start_result false w client number ≡ Ok tt → waiting_in (after_start false w client number call) client ≡ Err refusal → ⊥
+    → start_result false w client number call ≡ Ok tt → waiting_in (after_start false w client number call) client ≡ Err refusal → ⊥
 goes_on_once_started w client number call refusal started refused =
     let begun = begun_by w client number call started in
     let u : UnderWay = call_begun (machine w) (begun_of (machine w) client begun.n call) in
@@ -98,14 +79,14 @@ not_full result room full some = go (is_no_memory result) refl
 -- a start that was refused where room was made is one that any broker with these queues refuses
 module _ (old made now : Brokered) (slot : ℕ) (client : Client) (number : ℕ) (call : Call) (opened : IsOpenTo old slot client)
     (admitted : IsOpenTo made slot client) (same : admitted.world ≡ opened.world) (result : Result Unit Refusal)
-    (result_is : result ≡ answer_at (λ w. start_result (is_no_memory result) w client number) made slot client)
+    (result_is : result ≡ answer_at (λ w. start_result (is_no_memory result) w client number call) made slot client)
     (world_is : world_at now slot ≡ world_after (λ w. after_start (is_no_memory result) w client number call) made slot client)
     (not : is_no_memory result ≡ false) where
-  pub started_here : start_result false opened.world client number ≡ result
+  pub started_here : start_result false opened.world client number call ≡ result
   started_here =
-      ap (λ w. start_result false w client number) (sym same)
-      ∙ ap (λ full. start_result full admitted.world client number) (sym not)
-      ∙ sym (open_answer (λ w. start_result (is_no_memory result) w client number) made slot client admitted)
+      ap (λ w. start_result false w client number call) (sym same)
+      ∙ ap (λ full. start_result full admitted.world client number call) (sym not)
+      ∙ sym (open_answer (λ w. start_result (is_no_memory result) w client number call) made slot client admitted)
       ∙ sym result_is
 
   pub left_here : world_at now slot ≡ Some (after_start false opened.world client number call)
@@ -115,10 +96,10 @@ module _ (old made now : Brokered) (slot : ℕ) (client : Client) (number : ℕ)
       ∙ ap (λ w. Some (after_start false w client number call)) same
 
   pub refused_here : (refusal : Refusal) → result ≡ Err refusal
-      → (answer_at (λ w. start_result false w client number) old slot client ≡ Err refusal)
+      → (answer_at (λ w. start_result false w client number call) old slot client ≡ Err refusal)
       × (world_at now slot ≡ world_after (λ w. after_start false w client number call) old slot client)
   refused_here refusal is = (
-    open_answer (λ w. start_result false w client number) old slot client opened ∙ started_here ∙ is,
+    open_answer (λ w. start_result false w client number call) old slot client opened ∙ started_here ∙ is,
     left_here ∙ sym (open_after (λ w. after_start false w client number call) old slot client opened),
   )
 
@@ -183,7 +164,7 @@ module _ (old made now : Brokered) (slot : ℕ) (client : Client) (number : ℕ)
     others_alike,
   )
 
-  pub was_started : result ≡ Ok tt → start_result false opened.world client number ≡ Ok tt
+  pub was_started : result ≡ Ok tt → start_result false opened.world client number call ≡ Ok tt
   was_started is = started_here old made now slot client number call opened admitted_then refl result tried.act.answers tried.act.world not_refused_memory ∙ is
 
   pub left : world_at now slot ≡ Some (after_start false opened.world client number call)

@@ -203,7 +203,7 @@ module _ (w : State) (client : Client) (number : ℕ) (call : Call) (steps : ℕ
   done = after_alone steps begun client
 
   pub right_served : Holds w → Holds begun → Holds done → w.recovery ≡ None → w.shape.kind ≡ log_kind
-      → client.0 < MAX_CLIENTS → start_result false w client number ≡ Ok tt → IsAnsweredAlone begun client steps reply
+      → client.0 < MAX_CLIENTS → start_result false w client number call ≡ Ok tt → IsAnsweredAlone begun client steps reply
       → (was is : ℕ → Option Verdict) → IsKeptNew was is client (Some (taken_as number reply))
       → IsSlotRight true (Some w) was → IsSlotRight true (Some done) is
   right_served holds started still up log few starts answers was is kept right =

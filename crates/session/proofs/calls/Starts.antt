@@ -45,8 +45,8 @@ pub started_by : (old new : Brokered) (slot : ℕ) (client : Client) (number : �
 started_by old new slot client number call r act beside = record {
   act = record {
     world = act.world ∙ ap (λ x. world_after (λ w. after_start x w client number call) old slot client) (sym (same_memory r));
-    answers = ap as_begun act.answers ∙ begun_at (λ w. start_result (is_no_memory r) w client number) old slot client
-        ∙ ap (λ x. answer_at (λ w. as_begun (start_result x w client number)) old slot client) (sym (same_memory r));
+    answers = ap as_begun act.answers ∙ begun_at (λ w. start_result (is_no_memory r) w client number call) old slot client
+        ∙ ap (λ x. answer_at (λ w. as_begun (start_result x w client number call)) old slot client) (sym (same_memory r));
     full = λ e. act.full (sym (same_memory r) ∙ e);
     room = act.room;
     spare = refused_begun (λ e. room_at old slot ≤ room_at new slot) r act.spare;

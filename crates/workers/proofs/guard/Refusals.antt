@@ -1,7 +1,7 @@
 -- Why the calls of a session under the lock are refused, and that a settled number runs no more.
 use Rattle.std.proofs.Common.{◌≡◌, ◌∙◌, ◌⊎◌, inl, inr, ◌+◌, ◌<◌, ℕ, Bool, true, false, length, List, Option, Some, None, Result, Ok, Err, refl, sym, ap, subst, slice_get, arith, true≢false}
 use Rattle.std.proofs.Common.{slice_index_or, unwrap_or}
-use Rattle.std.specs.Prelude.{◌==◌, IfErr, IsSome, IsTrue, ◌||◌, is_some, nat_lt, slice_index, if◌then◌else◌}
+use Rattle.std.specs.Prelude.{◌==◌, IfErr, IsSome, IsTrue, ◌||◌, is_some, nat_lt, if◌then◌else◌}
 use Rattle.std.specs.List.{list_any}
 use Rattle.std.proofs.lemmas.Bool.{eq-eqb, lt-ltb, ltb-false}
 use Rattle.std.proofs.lemmas.Bool.Decides.{nat_tests}
@@ -14,23 +14,19 @@ use Rattle.words.specs.declared.call.Reply.{Reply}
 use Rattle.words.specs.declared.limits.TheConstants.{MAX_CALL_NUMBER}
 use Rattle.words.specs.declared.refusal.Refusal.{Refusal}
 use Rattle.words.specs.declared.refusal.Refusal.TheVariants.{Busy, Gap, NoClient, NoMemory}
-use Rattle.words.specs.declared.refusal.Refusal.TheVariants.{NoQueue, NoRoom, NotReady, Old, StaleNumber, WrongKind}
+use Rattle.words.specs.declared.refusal.Refusal.TheVariants.{NoQueue, NotReady, Old, StaleNumber, WrongKind}
 use Rattle.words.specs.declared.told.Outcome.{Outcome}
 use Rattle.words.specs.declared.told.Outcome.TheVariants.{NotTaken, Taken}
 use Rattle.words.specs.declared.told.Verdict.{Verdict}
 use Rattle.arena.specs.declared.broker.SlotId.{SlotId}
 use Rattle.directory.specs.Directory.{HasName, HasQueue, IsNamed}
 use Rattle.directory.specs.declared.queue.Queue.{Queue as AnyQueue}
-use Rattle.interleave.specs.Calls.{idle_result, is_no_memory}
-use Rattle.interleave.specs.Queue.{number_check}
-use Rattle.interleave.specs.State.{State, is_down, number_of_idle, number_to_start, start_result, start_result_with}
-use Rattle.interleave.specs.State.{used_by}
+use Rattle.interleave.specs.Calls.{is_no_memory}
+use Rattle.interleave.specs.State.{State, start_result}
 use Rattle.interleave.specs.Verdicts.{number_of_call, number_under_way}
-use Rattle.interleave.specs.declared.queue.Queue.{Queue as ClientsQueue}
-use Rattle.interleave.specs.declared.queue.Queue.TheVariants.{Durable, Log}
+use Rattle.interleave.proofs.Facts.{IsWhyUnstarted, why_unstarted}
 use Rattle.named.specs.Brokers.{Brokered, answer_at, answer_if, has_client, world_at}
 use Rattle.named.specs.Finding.{IsPlaced}
-use Rattle.logqueue.specs.Numbers.{is_stale}
 use Rattle.protocol.specs.declared.UnderWay.{UnderWay}
 use Rattle.named.specs.Brokers.{is_down as is_broker_down}
 use Rattle.named.specs.Rotating.{has_calls_in, rotate_result}
@@ -164,7 +160,7 @@ module _ (all : ℕ) (first : Sessioned) (g : Guarded) (well : IsGuardedWell all
       go : (h : Bool) → h ≡ true → (o : Option BrokerRecovery) → s.broker.recovery ≡ o → (world : Option State)
           → world_at s.broker queue.0 ≡ world → Within Why (answer_if (let_in h o) (answered f world))
       go false never o up world there = absurd (true≢false (sym never))
-      go true _ (Some r) up world there = λ stale. tt
+      go true _ (Some r) up world there = λ stale. refl
       go true _ None up None there = closed there
       go true _ None up (Some w) there = own w up there
 
@@ -190,9 +186,9 @@ module _ (all : ℕ) (first : Sessioned) (g : Guarded) (well : IsGuardedWell all
         no_other durable_kind never e = true≢false (sym (ap (is_kind durable_kind) e) ∙ never)
         no_other log_kind never e = true≢false (sym (ap (is_kind log_kind) e) ∙ never)
 
-    idle_within : (call : Option (Option UnderWay)) → slice_get w.calls client.0 ≡ call
-        → Within Why (idle_result (is_down w) call)
-    idle_within None at = absurd (none_there (slice_get-get_or w.calls client.0 None below) at)
+    -- why a start is refused
+    unstarted : (refusal : Refusal) → IsWhyUnstarted w client (number_or_zero asked) refusal → Why refusal
+    unstarted NoClient none = absurd (none_there (slice_get-get_or w.calls client.0 None below) none)
       where
         none_there : {x : Option UnderWay} → slice_get w.calls client.0 ≡ Some x → slice_get w.calls client.0 ≡ None → ⊥
         none_there e f = absurd (cc (e, f))
@@ -203,45 +199,24 @@ module _ (all : ℕ) (first : Sessioned) (g : Guarded) (well : IsGuardedWell all
             let clients = (holds_there s.broker well.promises.broker.well queue.0 w here).safe.clients in
             let same = clients_there s.broker well.promises.broker.well queue.0 w here in
             omega (arith, few, well.clients, clients, same, all_clients all first g well)
-    idle_within (Some None) at = go (is_down w)
+    unstarted Busy call = calls_here call.0 call.1
+    unstarted StaleNumber why = λ stale. stale refl
+    unstarted NoQueue why = absurd (cc (why))
+    unstarted WrongKind why = absurd (cc (why))
+    unstarted Old why = absurd (cc (why))
+    unstarted Gap why = absurd (cc (why))
+    unstarted _ why = λ stale. why
+
+    start_within : (full : Bool) (call : Call)
+        → Within Why (as_begun (start_result full w client (number_or_zero asked) call))
+    start_within full call =
+        go (start_result full w client (number_or_zero asked) call)
+        (why_unstarted full w client (number_or_zero asked) call)
       where
-        go : (d : Bool) → Within Why (idle_result d (Some None))
-        go true = λ stale. tt
-        go false = tt
-    idle_within (Some (Some u)) at = go (is_down w)
-      where
-        go : (d : Bool) → Within Why (idle_result d (Some (Some u)))
-        go true = λ stale. tt
-        go false = calls_here u at
-
-    check_within : (q : ClientsQueue) (number : ℕ) → Within Why (number_check q client number)
-    check_within (Durable told) number = tt
-    check_within (Log clients) number =
-        chosen Why (is_stale (slice_index clients.floors client.0) number) (Err StaleNumber) (Ok number)
-        (λ e stale. stale refl) (λ e. tt)
-
-    number_of_idle_within : (number : ℕ) (idle : Result Unit Refusal) → Within Why idle
-        → Within Why (number_of_idle w.queue client number idle)
-    number_of_idle_within number (Err refusal) why = why
-    number_of_idle_within number (Ok u) why = check_within w.queue number
-
-    begun_within : (r : Result Unit Refusal) → Within Why r → Within Why (as_begun r)
-    begun_within (Ok u) why = tt
-    begun_within (Err refusal) why = why
-
-    started_within : (full : Bool) (number : Result ℕ Refusal) → Within Why number
-        → Within Why (as_begun (start_result_with full w client number))
-    started_within full (Err refusal) why = why
-    started_within full (Ok number) why =
-        begun_within (start_result_with full w client (Ok number))
-        (chosen Why (used_by w client == w.shape.records) (Err NoRoom) _ (λ e stale. tt)
-        (λ e. chosen Why full (Err NoMemory) (Ok tt) (λ f stale. tt) (λ f. tt)))
-
-    start_within : (full : Bool) (number : ℕ) → Within Why (as_begun (start_result full w client number))
-    start_within full number =
-        started_within full (number_to_start w client number)
-        (number_of_idle_within number (idle_result (is_down w) (slice_get w.calls client.0))
-        (idle_within (slice_get w.calls client.0) refl))
+        go : (r : Result Unit Refusal) → IfErr r (IsWhyUnstarted w client (number_or_zero asked))
+            → Within Why (as_begun r)
+        go (Ok u) why = tt
+        go (Err refusal) why = unstarted refusal why
 
     queue_within : (kind : Kind) → kind ≡ kind_asked asked → Within Why (queue_admission kind client w)
     queue_within kind is =
@@ -280,8 +255,8 @@ module _ (all : ℕ) (first : Sessioned) (g : Guarded) (well : IsGuardedWell all
       subst (λ (x : Result (Option Reply) Refusal). Within Why x) (sym act.0) tt
   begin_within new call r (Ok None) act why =
       subst (λ (x : Result (Option Reply) Refusal). Within Why x) (sym act.0.act.answers)
-      (by_act (λ w. as_begun (start_result (is_no_memory r) w client (number_or_zero asked)))
-      (λ w up here. start_within w up here (is_no_memory r) (number_or_zero asked)))
+      (by_act (λ w. as_begun (start_result (is_no_memory r) w client (number_or_zero asked) call))
+      (λ w up here. start_within w up here (is_no_memory r) call))
 
   pub why_refused : (new : Sessioned) (call : Call) (refusal : Refusal)
       → IsBegunBy s new queue.0 client (number_or_zero asked) call (Err refusal) (answer_to s queue.0 client asked)
@@ -389,7 +364,7 @@ module _ (all : ℕ) (first : Sessioned) (g : Guarded) (well : IsGuardedWell all
 pub unplaced : (all : ℕ) (first : Sessioned) (g : Guarded) → IsGuardedWell all first g → (list : List Entry)
     (r : Request) (refusal : Refusal) → IsPlaced g.session.broker r.name (Err refusal)
     → IsWhyRefused first list r refusal
-unplaced all first g well list r NotReady placed = tt
+unplaced all first g well list r NotReady placed = refl
 unplaced all first g well list r NoQueue placed = λ has.
     placed.1 (taken_still first.broker g.session.broker g.rotated r.name well.came has)
 unplaced all first g well list r _ placed = absurd placed

@@ -1,6 +1,6 @@
 -- What a start makes of the histories.
 use Rattle.std.proofs.Common.{◌≡◌, ◌++◌, ℕ, List, ◌==◌, Bool, true, false, [], ◌∷◌, Option, Some, None, Result, Ok}
-use Rattle.std.proofs.Common.{Err, if◌then◌else◌, slice_index, refl, sym, ap, subst, ◌∙◌}
+use Rattle.std.proofs.Common.{Err, if◌then◌else◌, refl, sym, ap, subst, ◌∙◌}
 use Rattle.std.specs.Prelude.{is_some}
 use Rattle.words.specs.declared.call.Call.{Call}
 use Rattle.words.specs.declared.call.Client.{Client}
@@ -8,21 +8,20 @@ use Rattle.words.specs.declared.call.Kind.{Kind}
 use Rattle.words.specs.declared.call.Kind.TheVariants.{Durable as durable_kind, Log as log_kind}
 use Rattle.words.specs.declared.call.Reply.{Reply}
 use Rattle.words.specs.declared.refusal.Refusal.{Refusal}
-use Rattle.words.specs.declared.refusal.Refusal.TheVariants.{Busy, NoMemory, NoRoom, Old, StaleNumber, WrongKind}
-use Rattle.logqueue.specs.Numbers.{is_stale}
+use Rattle.words.specs.declared.refusal.Refusal.TheVariants.{Busy, NoMemory, NoRoom, Old, WrongKind}
 use Rattle.events.specs.declared.event.Event.{Event}
 use Rattle.events.specs.declared.event.Event.TheVariants.{Call as call_event}
 use Rattle.protocol.specs.declared.acts.Act.TheVariants.{Start}
 use Rattle.interleave.specs.Calls.{is_no_memory}
 use Rattle.interleave.specs.OneEvent.{call_events}
 use Rattle.interleave.specs.Ranges.{IsOfKind}
-use Rattle.interleave.specs.State.{State, after_bump_load, after_call_began, after_start, number_of_idle}
+use Rattle.interleave.specs.State.{State, after_bump_load, after_call_began, after_start}
 use Rattle.interleave.specs.State.{number_to_start}
 use Rattle.interleave.specs.State.{start_result, start_result_with, start_with, used_by}
 use Rattle.interleave.specs.Verdicts.{number_under_way}
 use Rattle.interleave.specs.declared.queue.Queue.{Queue}
 use Rattle.interleave.specs.declared.queue.Queue.TheVariants.{Durable, Log}
-use Rattle.interleave.proofs.Facts.{act_adds_one}
+use Rattle.interleave.proofs.Facts.{IsTaken, act_adds_one, number_of_log, startable, taken}
 use Rattle.named.specs.Brokers.{Brokered, admission, answer_if, world_at}
 use Rattle.named.proofs.Facts.{some_is}
 use Rattle.session.specs.Promises.{KeepsNumbers}
@@ -37,9 +36,9 @@ use Rattle.workers.proofs.histories.Slots.{stays_by_client}
 
 -- a start that is refused adds nothing: all that it may come to is the load of a bump word
 refused_adds_none : (full : Bool) (w : State) (client : Client) (number : ℕ) (call : Call) (refusal : Refusal)
-    → start_result full w client number ≡ Err refusal
+    → start_result full w client number call ≡ Err refusal
     → (after_start full w client number call).log.events ≡ w.log.events
-refused_adds_none full w client number call refusal refused = go (number_to_start w client number) refused
+refused_adds_none full w client number call refusal refused = go (number_to_start w client number call) refused
   where
     left : Bool → Bool → ℕ → State
     left a b n = if a then after_bump_load w else (if b then after_bump_load w else after_call_began w client n call)
@@ -58,47 +57,35 @@ refused_adds_none full w client number call refusal refused = go (number_to_star
         both false false is = absurd (cc (is))
 
 -- one that is accepted has a number in the history
-record IsNumberedAs (w : State) (client : Client) (number : ℕ) : Type 0 where
+record IsNumberedAs (w : State) (client : Client) (number : ℕ) (call : Call) : Type 0 where
   pub n : ℕ
-  pub is : number_to_start w client number ≡ Ok n
+  pub is : number_to_start w client number call ≡ Ok n
 
-number_given : (full : Bool) (w : State) (client : Client) (number : ℕ) → start_result full w client number ≡ Ok tt
-    → IsNumberedAs w client number
-number_given full w client number started = go (number_to_start w client number) refl started
+number_given : (full : Bool) (w : State) (client : Client) (number : ℕ) (call : Call)
+    → start_result full w client number call ≡ Ok tt → IsNumberedAs w client number call
+number_given full w client number call started = go (number_to_start w client number call) refl started
   where
-    go : (r : Result ℕ Refusal) → number_to_start w client number ≡ r → start_result_with full w client r ≡ Ok tt
-        → IsNumberedAs w client number
+    go : (r : Result ℕ Refusal) → number_to_start w client number call ≡ r → start_result_with full w client r ≡ Ok tt
+        → IsNumberedAs w client number call
     go (Err refusal) is e = absurd (cc (e))
     go (Ok n) is e = record { n = n; is = is }
 
 -- and adds its Call
-started_adds : (w : State) (client : Client) (number n : ℕ) (call : Call) → start_result false w client number ≡ Ok tt
-    → number_to_start w client number ≡ Ok n
+started_adds : (w : State) (client : Client) (number n : ℕ) (call : Call) → start_result false w client number call ≡ Ok tt
+    → number_to_start w client number call ≡ Ok n
     → (after_start false w client number call).log.events ≡ w.log.events ++ call_event client n call ∷ []
 started_adds w client number n call started is =
     act_adds_one w (Start client number call)
-    ∙ ap (λ (r : Result Unit Refusal). added r (number_to_start w client number)) started ∙ ap (added (Ok tt)) is
+    ∙ ap (λ (r : Result Unit Refusal). added r (number_to_start w client number call)) started ∙ ap (added (Ok tt)) is
   where
     added : Result Unit Refusal → Result ℕ Refusal → List Event
     added r its = w.log.events ++ call_events r its client call
 
 -- in a durable queue its number is 0, in a log queue the one that was given
-zero_if_durable : (queue : Queue) (client : Client) (number n : ℕ) (idle : Result Unit Refusal)
-    → IsOfKind durable_kind queue → number_of_idle queue client number idle ≡ Ok n → n ≡ 0
-zero_if_durable queue client number n (Err refusal) its is = absurd (cc (is))
-zero_if_durable (Durable told) client number n (Ok u) its is = cc (is)
-zero_if_durable (Log clients) client number n (Ok u) its is = absurd its
-
-given_if_log : (queue : Queue) (client : Client) (number n : ℕ) (idle : Result Unit Refusal)
-    → IsOfKind log_kind queue → number_of_idle queue client number idle ≡ Ok n → n ≡ number
-given_if_log queue client number n (Err refusal) its is = absurd (cc (is))
-given_if_log (Durable told) client number n (Ok u) its is = absurd its
-given_if_log (Log clients) client number n (Ok u) its is = go (is_stale (slice_index clients.floors client.0) number) is
-  where
-    go : (stale : Bool) → (if stale then (let r : Result ℕ Refusal = Err StaleNumber in r) else Ok number) ≡ Ok n
-        → n ≡ number
-    go true e = absurd (cc (e))
-    go false e = cc (e)
+zero_if_durable : (queue : Queue) (client : Client) (number n : ℕ) → IsOfKind durable_kind queue
+    → IsTaken queue client number n → n ≡ 0
+zero_if_durable (Durable told) client number n is its = its
+zero_if_durable (Log clients) client number n is its = absurd is
 
 -- a request is let in to a queue of its kind alone
 same_kind : (kind its : Kind) (busy : Bool)
@@ -123,15 +110,17 @@ let_in (Ok u) answer x e = refl
 let_in (Err refusal) answer x e = absurd (cc (e))
 
 -- so it is the number of the request, or 0 where that has none
-number_asked : (old : Sessioned) (slot : ℕ) (client : Client) (number : Option ℕ) (w : State)
+number_asked : (old : Sessioned) (slot : ℕ) (client : Client) (number : Option ℕ) (call : Call) (w : State)
     → world_at old.broker slot ≡ Some w → IsOfKind w.shape.kind w.queue → answer_to old slot client number ≡ Ok None
-    → (n : ℕ) → number_to_start w client (number_or_zero number) ≡ Ok n → n ≡ number_or_zero number
-number_asked old slot client (Some number) w here its runs n is =
+    → (n : ℕ) → number_to_start w client (number_or_zero number) call ≡ Ok n → n ≡ number_or_zero number
+number_asked old slot client (Some number) call w here its runs n is =
     let kind = kind_asked log_kind old.broker slot client w here (let_in _ _ _ runs) in
-    given_if_log w.queue client number n _ (subst (λ (k : Kind). IsOfKind k w.queue) kind its) is
-number_asked old slot client None w here its runs n is =
+    number_of_log w.queue client number n (subst (λ (k : Kind). IsOfKind k w.queue) kind its)
+    (taken w.queue client number n (startable w client number n call is).taken)
+number_asked old slot client None call w here its runs n is =
     let kind = kind_asked durable_kind old.broker slot client w here (let_in _ _ _ runs) in
-    zero_if_durable w.queue client 0 n _ (subst (λ (k : Kind). IsOfKind k w.queue) kind its) is
+    zero_if_durable w.queue client 0 n (subst (λ (k : Kind). IsOfKind k w.queue) kind its)
+    (taken w.queue client 0 n (startable w client 0 n call is).taken)
 
 -- what a request came to that was not refused
 module _ (old new : Sessioned) (slot : ℕ) (client : Client) (number : ℕ) (call : Call) where
@@ -144,7 +133,7 @@ module _ (old new : Sessioned) (slot : ℕ) (client : Client) (number : ℕ) (ca
 
   -- what the world of the slot answers
   abbrev answers : Bool → State → Result (Option Reply) Refusal
-  answers full w = as_begun (start_result full w client number)
+  answers full w = as_begun (start_result full w client number call)
 
   -- a start answers no reply
   never_begun : (r : Result Unit Refusal) (reply : Reply) → as_begun r ≡ Ok (Some reply) → ⊥
@@ -157,7 +146,7 @@ module _ (old new : Sessioned) (slot : ℕ) (client : Client) (number : ℕ) (ca
   kept_if_answered (Ok (Some kept)) reply begun = (begun.1, sym begun.0)
   kept_if_answered (Ok None) reply begun =
       let at = answered_at (answers false) old.broker slot client (Some reply) (sym begun.0.act.answers) in
-      absurd (never_begun (start_result false at.world client number) reply at.says)
+      absurd (never_begun (start_result false at.world client number call) reply at.says)
 
   -- a refused start leaves the histories
   module _ (refusal : Refusal) (keeps : KeepsNumbers old)
@@ -166,12 +155,12 @@ module _ (old new : Sessioned) (slot : ℕ) (client : Client) (number : ℕ) (ca
     full = is_no_memory {X = Option Reply} (Err refusal)
 
     refused_at : (w : State) → world_at old.broker slot ≡ Some w → admission old.broker client ≡ Ok tt
-        → as_begun (start_result full w client number) ≡ Err refusal
+        → as_begun (start_result full w client number call) ≡ Err refusal
     refused_at w here admitted =
         sym (started.act.answers
         ∙ open_answer (answers full) old.broker slot client (record { world = w; here = here; admitted = admitted }))
 
-    adds_none : (w : State) (r : Result Unit Refusal) → start_result full w client number ≡ r
+    adds_none : (w : State) (r : Result Unit Refusal) → start_result full w client number call ≡ r
         → as_begun r ≡ Err refusal → (after_start full w client number call).log.events ≡ w.log.events
     adds_none w (Ok u) e none = absurd (cc (none))
     adds_none w (Err other) e none = refused_adds_none full w client number call other e
@@ -181,7 +170,7 @@ module _ (old new : Sessioned) (slot : ℕ) (client : Client) (number : ℕ) (ca
         quiet_carried old new slot started.beside
         (stays_by_client full (Start client number call) old.broker new.broker slot client keeps.broker.well
         started.act.world
-        (λ w here admitted. adds_none w (start_result full w client number) refl (refused_at w here admitted)))
+        (λ w here admitted. adds_none w (start_result full w client number call) refl (refused_at w here admitted)))
 
   pub begun_refused : (refusal : Refusal) (answer : Result (Option Reply) Refusal) → KeepsNumbers old
       → IsBegunBy old new slot client number call (Err refusal) answer → (u : Client) → IsCarriedFor false u old new
@@ -193,7 +182,7 @@ module _ (old new : Sessioned) (slot : ℕ) (client : Client) (number : ℕ) (ca
   module _ (keeps : KeepsNumbers old)
       (started : IsStarted old.broker new.broker slot client number call (Ok None))
       (number_is : (w : State) → world_at old.broker slot ≡ Some w → IsOfKind w.shape.kind w.queue → (n : ℕ)
-      → number_to_start w client number ≡ Ok n → n ≡ number) where
+      → number_to_start w client number call ≡ Ok n → n ≡ number) where
     accepted : (r : Result Unit Refusal) → as_begun r ≡ Ok None → r ≡ Ok tt
     accepted (Ok u) e = refl
     accepted (Err refusal) e = absurd (cc (e))
@@ -202,8 +191,8 @@ module _ (old new : Sessioned) (slot : ℕ) (client : Client) (number : ℕ) (ca
         → IsOnBy (world_at old.broker slot) (call_event client number call ∷ []) (world_at new.broker slot)
     came at =
         let w : State = at.world in
-        let ok = accepted (start_result false w client number) at.says in
-        let its = number_given false w client number ok in
+        let ok = accepted (start_result false w client number call) at.says in
+        let its = number_given false w client number call ok in
         let holds = holds_there old.broker keeps.broker.well slot w at.here in
         goes_by_act false w (Start client number call) (call_event client number call ∷ []) (world_at old.broker slot)
         (world_at new.broker slot) holds at.here
@@ -226,7 +215,7 @@ begun_run old new slot client number call keeps begun =
     let runs =
     run_if_started old new slot client (number_or_zero number) call (answer_to old slot client number) begun in
     call_came old new slot client (number_or_zero number) call keeps runs.1
-    (λ w here its n is. number_asked old slot client number w here its runs.0 n is)
+    (λ w here its n is. number_asked old slot client number call w here its runs.0 n is)
 
 -- a call that is answered from what is kept has a number, and changes nothing
 pub begun_kept : (old new : Sessioned) (slot : ℕ) (client : Client) (number : Option ℕ) (call : Call) (reply : Reply)
