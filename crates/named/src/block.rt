@@ -40,24 +40,22 @@ fn renumbered(change: Option<Change>, word: usize) -> Option<Change>
     change.map(|change| Change { word, ..change })
 }
 
-/// What a queue answered, with its change's word numbered as the whole memory numbers it: the block begins there.
-fn numbered_from<T>(acted: Result<Noted<T>, Refusal>, block: usize) -> Result<Noted<T>, Refusal>
-    requires { IfSome (change_in acted) (λ change. block + change.word ≤ usize.MAX) }
-    ensures answer { answer_in result ≡ answer_in acted }
-    ensures change { change_in result ≡ change_behind block (change_in acted) }
+/// The change of what a queue answered is numbered as the whole memory numbers its words: the block begins there. In
+/// place, since the answer of each step comes this way.
+fn number_from<T>(acted: &mut Result<Noted<T>, Refusal>, block: usize)
+    requires { IfSome (change_in acted.old) (λ change. block + change.word ≤ usize.MAX) }
+    ensures answer { answer_in acted.new ≡ answer_in acted.old }
+    ensures change { change_in acted.new ≡ change_behind block (change_in acted.old) }
 {
-    let mut acted = acted;
-    // In place: an answer is not copied on its way.
     if let Ok(
         Noted {
             change: Some(change),
             ..
         },
-    ) = &mut acted
+    ) = acted
     {
         change.word += block;
     }
-    acted
 }
 
 impl Model for Block {
@@ -143,6 +141,7 @@ impl Block {
     }
 
     /// One step of the client's call, through a window on the block.
+    #[inline(always)]
     pub(crate) fn step(
         &mut self,
         memory: &mut Memory,
@@ -157,8 +156,9 @@ impl Block {
         ensures noted { IsNoted (change_in result) memory.old.words.kept memory.new.words.kept }
     {
         let mut window = memory.window(self.from, self.len, self.port + client.0 as usize)?;
-        let stepped = self.core.step_noted(&mut window, client);
-        numbered_from(stepped, self.from)
+        let mut stepped = self.core.step_noted(&mut window, client);
+        number_from(&mut stepped, self.from);
+        stepped
     }
 
     /// A client starts a call.
@@ -311,8 +311,9 @@ impl Block {
         ensures noted { IsNoted (change_in result) memory.old.words.kept memory.new.words.kept }
     {
         let mut window = memory.window(self.from, self.len, self.port + RECOVERY_PORT)?;
-        let recovered = self.core.recover_step_noted(&mut window);
-        numbered_from(recovered, self.from)
+        let mut recovered = self.core.recover_step_noted(&mut window);
+        number_from(&mut recovered, self.from);
+        recovered
     }
 
     /// Whether a client has a call under way.

@@ -67,6 +67,7 @@ impl Broker {
 
     /// One step of a call in the queue of a slot. It is refused as [`Broker::start`] is, and then as
     /// [`interleave::World::step`] is.
+    #[inline(always)]
     pub fn step(&mut self, slot: SlotId, client: Client) -> Result<Option<Reply>, Refusal>
         ensures act { IsActAt (stepping client) slot.0 client self.old result self.new }
         ensures stays { result ≡ Ok None → room_at self.old slot.0 ≤ room_at self.new slot.0 }
@@ -78,6 +79,7 @@ impl Broker {
     }
 
     /// As [`Broker::step`], with the change of a kept word that the step made, by its number in the whole memory.
+    #[inline(always)]
     pub fn step_noted(
         &mut self,
         slot: SlotId,
@@ -96,6 +98,9 @@ impl Broker {
 
     /// As [`Broker::step_noted`], in a slot that is known to be open to the client. It is refused as
     /// [`interleave::World::step`] is.
+    // Each call that stays one copies the answer, some 80 bytes, and each copy waits for the one before it to be stored.
+    // So a step is part of its caller, from here to the block.
+    #[inline(always)]
     pub fn step_open(
         &mut self,
         slot: SlotId,
@@ -125,7 +130,8 @@ impl Broker {
         self.run_open(slot, client)
     }
 
-    /// As [`Broker::run_alone`], in a slot that is known to be open to the client.
+    /// As [`Broker::run_alone`], in a slot that is known to be open to the client. It is refused as
+    /// [`interleave::World::step`] is, and for want of memory before its first step.
     pub fn run_open(&mut self, slot: SlotId, client: Client) -> Result<(Reply, u32), Refusal>
         requires { IsOpenTo self.old slot.0 client }
         ensures alone { IsAloneAt slot.0 client self.old result self.new }

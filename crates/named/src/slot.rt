@@ -65,6 +65,7 @@ impl Slot {
     }
 
     /// One step of a call in its queue.
+    #[inline(always)]
     pub(crate) fn step(
         &mut self,
         memory: &mut Memory,

@@ -49,8 +49,8 @@ pub fn settled_is_told()
     ensures { (s : Sessioned) → IsRight s → IsSettledTold s }
 {}
 
-/// A number that the table of numbers lets run is not stale, unless it is above the greatest number: the queue takes it
-/// for a call, and refuses that for want of records or memory alone.
+/// A number that the table of numbers lets run is not stale, unless it is above the greatest number: a start finds its
+/// queue ready and the client with no call, and the queue takes the number. Records and memory are not said to be there.
 pub fn admitted_numbers_run()
     ensures { (s : Sessioned) → KeepsNumbers s → AreAdmittedTaken s }
 {}

@@ -65,8 +65,8 @@ impl Session {
     /// refused, in this order, where there is no such client (NoClient), while the broker recovers (NotReady), where
     /// the slot is closed (NoQueue), where the queue is durable (WrongKind), where the client has a call under way
     /// (Busy), where a later number is known (Old), as it is for 0, where an earlier one is missing (Gap), and for want
-    /// of memory (NoMemory); what would run is refused where the number is above [`words::MAX_CALL_NUMBER`]
-    /// (StaleNumber) or the client's records are used up (NoRoom).
+    /// of memory (NoMemory); what would run is then refused as [`interleave::World::start`] is, and as stale above
+    /// [`words::MAX_CALL_NUMBER`] alone (StaleNumber).
     pub fn request(
         &mut self,
         client: Client,
@@ -180,6 +180,8 @@ impl Session {
     }
 
     /// As [`Session::advance`], with the change of a kept word that the step made.
+    // Part of its caller, as `Broker::step_open` is.
+    #[inline(always)]
     pub fn advance_noted(
         &mut self,
         client: Client,

@@ -3,13 +3,9 @@ use Rattle.std.proofs.Common.{◌≡◌, ◌<◌, ◌⊎◌, ℕ, List, Option, 
 use Rattle.std.specs.Prelude.{IfErr, IfOk}
 use Rattle.std.proofs.lemmas.Option.{slice_get_within}
 use Rattle.words.specs.declared.refusal.Refusal.{Refusal}
-use Rattle.words.specs.declared.refusal.Refusal.TheVariants.{NoWord, BadMagic, BadCount, Truncated, TrailingBytes}
-use Rattle.words.specs.declared.refusal.Refusal.TheVariants.{NoMemory, BadClients, BadRecords, StaleNumber, Busy}
-use Rattle.words.specs.declared.refusal.Refusal.TheVariants.{NoRoom, NotReady, NoClient, Idle, AlreadyReady, BadName}
-use Rattle.words.specs.declared.refusal.Refusal.TheVariants.{Exists, DirectoryFull, Gap, Old, NoQueue, WrongKind}
-use Rattle.words.specs.declared.refusal.Refusal.TheVariants.{TooLong, BadJson, BadRequest, ReadFailed, WriteFailed}
-use Rattle.words.specs.declared.refusal.Refusal.TheVariants.{BadLine, Damaged, BadItem}
-use Rattle.words.specs.declared.refusal.Rule.TheVariants.{Size, Records, Chain, Claims, Ends, Rows, Entries, Image}
+use Rattle.words.specs.declared.refusal.Refusal.TheVariants.{NoMemory}
+use Rattle.words.specs.declared.refusal.Refusal.TheVariants.{Damaged}
+use Rattle.words.specs.declared.refusal.Rule.TheVariants.{Image}
 use Rattle.words.specs.declared.refusal.Rule.TheVariants.{Directory as directory_rule}
 use Rattle.words.specs.declared.call.Kind.{Kind}
 use Rattle.words.specs.declared.call.Kind.TheVariants.{Durable, Log}

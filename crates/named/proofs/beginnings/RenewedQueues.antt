@@ -28,9 +28,8 @@ use Rattle.interleave.specs.State.{State, kept_tells}
 use Rattle.interleave.specs.Values.{value_of_place}
 use Rattle.renewal.specs.Broker.{BlockFits}
 use Rattle.renewal.specs.OneQueue.{IsQueueRenewalOf, IsWhyNotRenewed, queue_renewed}
-use Rattle.named.specs.Blocks.{state_in}
 use Rattle.named.specs.Booting.{AreBootWords, IsBooted, world_booted}
-use Rattle.named.specs.Brokers.{Brokered, IsDirectoryAt, IsDirectoryIn, IsInBlock, IsWell, block_words, world_at}
+use Rattle.named.specs.Brokers.{Brokered, IsDirectoryAt, IsDirectoryIn, IsWell, block_words, world_at}
 use Rattle.named.specs.Brokers.{world_of}
 use Rattle.named.specs.Renewing.{BeginsOn, IsRenewedAt, IsWhyNotRenewedAt, MayRenew}
 use Rattle.named.specs.Rotating.{has_calls_in, rotate_result}

@@ -1,12 +1,12 @@
 -- At every moment each open queue stands in the words that are kept.
-use Rattle.std.proofs.Common.{◌≡◌, ℕ, ◌<◌, ◌⊎◌, inl, inr, List, length, slice_get, slice_set, Option, Some, None, refl, sym, ap, subst, ◌∙◌, arith, get_or}
+use Rattle.std.proofs.Common.{◌≡◌, ℕ, ◌<◌, inl, inr, length, slice_get, slice_set, Option, Some, None, refl, sym, ap, subst, ◌∙◌, arith, get_or}
 use Rattle.std.specs.Prelude.{option_map}
 use Rattle.std.proofs.lemmas.Bool.{cases_eq}
 use Rattle.std.proofs.lemmas.Option.{none-some, same_Some, slice_get-get_or, slice_get_within}
 use Rattle.words.specs.declared.call.Kind.{Kind}
 use Rattle.persist.specs.Memory.{Words, words_after_crash}
 use Rattle.arena.specs.Shape.{Counts, shape_of}
-use Rattle.directory.specs.Directory.{Directory, HasQueue, IsDirectory, IsFree}
+use Rattle.directory.specs.Directory.{Directory, HasQueue, IsFree}
 use Rattle.directory.specs.Queue.{directory_of}
 use Rattle.directory.specs.Sound.{counts_in}
 use Rattle.directory.specs.UnderWay.{IsAtRest}
@@ -16,7 +16,7 @@ use Rattle.directory.proofs.Facts.{creation_crashed, kept_directory, rest_crashe
 use Rattle.interleave.specs.State.{State}
 use Rattle.named.specs.Blocks.{state_in}
 use Rattle.named.specs.Booting.{kept_block}
-use Rattle.named.specs.Brokers.{Brokered, IsCreating, IsDirectoryAt, IsInBlock, IsMaybeWith, IsWell, IsWith}
+use Rattle.named.specs.Brokers.{Brokered, IsCreating, IsDirectoryAt, IsInBlock, IsMaybeWith, IsWell}
 use Rattle.named.specs.Brokers.{block_words, world_at, world_of}
 use Rattle.named.specs.KeptQueues.{IsKeptQueue}
 use Rattle.named.specs.Slots.{world_in}

@@ -1,4 +1,4 @@
-use Rattle.std.proofs.Common.{◌≡◌, ◌∙◌, ℕ, ◌++◌, ◌∷◌, [], Some, Option, List, slice_get, length, ap, sym, subst, ◌+◌, arith}
+use Rattle.std.proofs.Common.{◌≡◌, ◌∙◌, ℕ, Some, Option, List, slice_get, length, ap, sym, subst, ◌+◌, arith}
 use Rattle.std.proofs.lemmas.List.{length_push}
 use Rattle.directory.specs.declared.queue.Queue.{Queue}
 use Rattle.named.specs.Booting.{IsSlotBooted}

@@ -56,14 +56,14 @@ returns-clause-act c =
     let fact : IsActIn recovering old was (answer_in c.recover_step_noted-recovered.result) new (with_core was c.recover_step_noted-recovered.new.self) =
     act_in old new was c.recover_step_noted-recovered.new.self _ RECOVERY_PORT v.memory.ghost_name v.port v.from v.len first ws window recovering (answer_in c.recover_step_noted-recovered.result)
     c.recover_step_noted-recovered.ensures.by_rule acted (recovered_shape full (state_in old.words was)) in
-    let numbered : IsActIn (recovering) old was (answer_in c.numbered_from.result) new (with_core was c.recover_step_noted-recovered.new.self) =
-    subst (λ (r : Result Bool Refusal). IsActIn (recovering) old was r new (with_core was c.recover_step_noted-recovered.new.self)) (sym c.numbered_from.ensures.answer) fact in
+    let numbered : IsActIn (recovering) old was (answer_in c.number_from.new.acted) new (with_core was c.recover_step_noted-recovered.new.self) =
+    subst (λ (r : Result Bool Refusal). IsActIn (recovering) old was r new (with_core was c.recover_step_noted-recovered.new.self)) (sym c.number_from.ensures.answer) fact in
     let name : v.memory.ghost_name ≡ w.memory.ghost_name =
     ap (λ (l : Lent). l.around.lender) c.recover_step_noted-recovered.ensures.lent ∙ ap (λ (a : Around). a.lender) (around_recovered full (state_of c.self.inside.core ws) first) in
     search rules
 
-pub numbered_from-requires : goal.numbered_from-requires
-numbered_from-requires c =
+pub number_from-requires : goal.number_from-requires
+number_from-requires c =
     let w = c.in_ok-window.window in
     let from : w.from ≡ c.self.inside.from = ap (λ (l : Lent). l.around.from) c.in_ok-window.ensures.lent in
     number_fits c.self.inside.from w.len _ _ _ c.recover_step_noted-recovered.ensures.noted
@@ -91,8 +91,8 @@ returns-clause-noted c =
     let around = (around_recovered full (state_of c.self.inside.core ws) first) in
     let fact : IsNoted (change_behind was.from (change_in c.recover_step_noted-recovered.result)) old.words.kept new.words.kept =
     noted_in old new was c.recover_step_noted-recovered.new.self _ RECOVERY_PORT v.memory.ghost_name v.port v.from v.len first ws window (change_in c.recover_step_noted-recovered.result) _ c.recover_step_noted-recovered.ensures.lent around c.recover_step_noted-recovered.ensures.noted in
-    let numbered : IsNoted (change_in c.numbered_from.result) old.words.kept new.words.kept =
-    subst (λ (n : Option Change). IsNoted n old.words.kept new.words.kept) (sym c.numbered_from.ensures.change) fact in
+    let numbered : IsNoted (change_in c.number_from.new.acted) old.words.kept new.words.kept =
+    subst (λ (n : Option Change). IsNoted n old.words.kept new.words.kept) (sym c.number_from.ensures.change) fact in
     let name : v.memory.ghost_name ≡ w.memory.ghost_name =
     ap (λ (l : Lent). l.around.lender) c.recover_step_noted-recovered.ensures.lent ∙ ap (λ (a : Around). a.lender) around in
     search rules

@@ -57,8 +57,8 @@ returns-clause-act c =
     let fact : IsActIn (stepping c.args.client) old was (answer_in c.step_noted-stepped.result) new (with_core was c.step_noted-stepped.new.self) =
     act_in old new was c.step_noted-stepped.new.self _ c.args.client.0 v.memory.ghost_name v.port v.from v.len first ws window (stepping c.args.client) (answer_in c.step_noted-stepped.result)
     c.step_noted-stepped.ensures.by_rule acted (step_alike full (state_in old.words was) c.args.client).0 in
-    let numbered : IsActIn (stepping c.args.client) old was (answer_in c.numbered_from.result) new (with_core was c.step_noted-stepped.new.self) =
-    subst (λ (r : Result (Option Reply) Refusal). IsActIn (stepping c.args.client) old was r new (with_core was c.step_noted-stepped.new.self)) (sym c.numbered_from.ensures.answer) fact in
+    let numbered : IsActIn (stepping c.args.client) old was (answer_in c.number_from.new.acted) new (with_core was c.step_noted-stepped.new.self) =
+    subst (λ (r : Result (Option Reply) Refusal). IsActIn (stepping c.args.client) old was r new (with_core was c.step_noted-stepped.new.self)) (sym c.number_from.ensures.answer) fact in
     let name : v.memory.ghost_name ≡ w.memory.ghost_name =
     ap (λ (l : Lent). l.around.lender) c.step_noted-stepped.ensures.lent ∙ ap (λ (a : Around). a.lender) (around_stepped full (state_of c.self.inside.core ws) c.args.client first) in
     search rules
@@ -68,8 +68,8 @@ returns-clause-recovery c =
     let alike = step_alike (is_no_memory (answer_in c.step_noted-stepped.result)) (state_of c.self.inside.core (window_words c.in_ok-window.window)) c.args.client in
     ap (λ (x : State). x.recovery) c.step_noted-stepped.ensures.by_rule.leaves ∙ alike.1 ∙ ap (λ (s : BlockState). s.core.trace.recovery) c.self.view_is
 
-pub numbered_from-requires : goal.numbered_from-requires
-numbered_from-requires c =
+pub number_from-requires : goal.number_from-requires
+number_from-requires c =
     let w = c.in_ok-window.window in
     let from : w.from ≡ c.self.inside.from = ap (λ (l : Lent). l.around.from) c.in_ok-window.ensures.lent in
     number_fits c.self.inside.from w.len _ _ _ c.step_noted-stepped.ensures.noted
@@ -97,8 +97,8 @@ returns-clause-noted c =
     let around = (around_stepped full (state_of c.self.inside.core ws) c.args.client first) in
     let fact : IsNoted (change_behind was.from (change_in c.step_noted-stepped.result)) old.words.kept new.words.kept =
     noted_in old new was c.step_noted-stepped.new.self _ c.args.client.0 v.memory.ghost_name v.port v.from v.len first ws window (change_in c.step_noted-stepped.result) _ c.step_noted-stepped.ensures.lent around c.step_noted-stepped.ensures.noted in
-    let numbered : IsNoted (change_in c.numbered_from.result) old.words.kept new.words.kept =
-    subst (λ (n : Option Change). IsNoted n old.words.kept new.words.kept) (sym c.numbered_from.ensures.change) fact in
+    let numbered : IsNoted (change_in c.number_from.new.acted) old.words.kept new.words.kept =
+    subst (λ (n : Option Change). IsNoted n old.words.kept new.words.kept) (sym c.number_from.ensures.change) fact in
     let name : v.memory.ghost_name ≡ w.memory.ghost_name =
     ap (λ (l : Lent). l.around.lender) c.step_noted-stepped.ensures.lent ∙ ap (λ (a : Around). a.lender) around in
     search rules
