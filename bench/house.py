@@ -1,6 +1,6 @@
 #!/usr/bin/env python3
-"""house.py [TOP]: counts of the repository at TOP (here): lines, clauses, citations of lower crates' lemmas, modules with the
-name of a crate below, depth.
+"""house.py [TOP]: counts of the repository at TOP (here): lines, clauses, argument lists, citations of lower crates'
+lemmas, modules with the name of a crate below, depth.
 
 A clause is joined over its lines; its length is that of the joined text. Printed, not tested.
 """
@@ -53,6 +53,20 @@ def clauses(text):
     return found
 
 
+def argument_lists(text):
+    """How many arguments each function of a source file takes, `self` among them."""
+    counts = []
+    for start in re.finditer(r"^ *(?:pub(?:\(\w+\))? )?(?:const )?fn \w+(?:<[^(]*>)?\(", text, re.M):
+        nested, found = 0, ""
+        for sign in text[start.end() :]:
+            if sign == ")" and nested == 0:
+                break
+            nested += (sign in "([{<") - (sign in ")]}>")
+            found += "," if sign == "," and nested == 0 else "x" if sign.strip() and sign != "," else ""
+        counts.append(sum(bool(it) for it in found.split(",")))
+    return counts
+
+
 def depth(crate):
     return 1 + max((depth(it) for it in crates[crate] if it in crates), default=0)
 
@@ -84,6 +98,8 @@ for most in (120, 200, 300):
     long = [is_told for it, is_told in all_clauses if len(it) > most]
     print(f"clauses over {most} columns:", len(long), "of which a comment says why:", sum(long))
 print("longest clause:", max(len(it) for it, _ in all_clauses))
+lists = [count for crate in crates for text in texts(crate, "src", "rt") for count in argument_lists(text)]
+print("longest argument list:", max(lists), "lists of more than six:", sum(count > 6 for count in lists))
 print("citations of lower crates' lemmas:", len(cited), "of modules:", len({module for _, module in cited}))
 modules = [
     f"{crate}::{path.stem}" for crate in crates for path in sorted((top / "crates" / crate / "src").rglob("*.rt"))
