@@ -23,7 +23,7 @@ use std::alloc::Global;
 use words::Refusal;
 
 /// What a crash at one point of a broker's script comes to, once recovery has ended.
-#[derive(Debug, Drop)]
+#[derive(Drop)]
 pub struct Point {
     /// The line of the report.
     pub text: Vec<u8>,

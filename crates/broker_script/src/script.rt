@@ -7,7 +7,7 @@ use crate::statements::{BrokerLine, Statement};
 use std::marker::Model;
 
 /// No broker and nothing to do, or a broker that is served and what is done on it, in order.
-#[derive(Debug, Drop)]
+#[derive(Drop)]
 pub struct Script {
     pub(crate) broker: Option<BrokerLine>,
     pub(crate) statements: Vec<Statement>,

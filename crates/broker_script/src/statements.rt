@@ -5,14 +5,14 @@ use grammar::Command;
 use words::{Call, Client, Kind};
 
 /// The first line of a script: the broker that it is about.
-#[derive(Clone, Copy, Debug, PartialEq, Eq)]
+#[derive(Clone, Copy)]
 pub struct BrokerLine {
     pub clients: u32,
     pub records: u32,
 }
 
 /// What a client asks the session for.
-#[derive(Clone, Copy, Debug, PartialEq, Eq)]
+#[derive(Clone, Copy)]
 pub enum Ask {
     /// The call of this number, which runs to its end, or its kept reply.
     Request {
@@ -34,7 +34,7 @@ pub enum Ask {
 }
 
 /// Any later line of a script.
-#[derive(Clone, Copy, Debug, PartialEq, Eq)]
+#[derive(Clone, Copy)]
 pub enum Statement {
     /// A queue is created.
     Create { name: Name, kind: Kind },

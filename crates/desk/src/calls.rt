@@ -15,7 +15,7 @@ use workers::{Naming, OpenGate, Seat, Shared};
 
 /// A put or a take, as it is asked for: in the queue of this name, and with a number in a log queue. A queue that is
 /// none is a text that is no name.
-#[derive(Clone, Copy, Debug, PartialEq, Eq)]
+#[derive(Clone, Copy)]
 pub struct Asked {
     pub queue: Option<Name>,
     pub number: Option<u64>,

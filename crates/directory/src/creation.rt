@@ -13,7 +13,7 @@ use persist::{Change, Noted, WordMemory};
 use stepper::After;
 
 /// A word of a slot that a creation keeps, by a flush and a fence. They are kept in this order.
-#[derive(Clone, Copy, Debug, PartialEq, Eq)]
+#[derive(Clone, Copy)]
 pub enum SlotWord {
     FirstName,
     SecondName,
@@ -24,7 +24,7 @@ pub enum SlotWord {
 }
 
 /// What a creation is about to do.
-#[derive(Clone, Copy, Debug, PartialEq, Eq)]
+#[derive(Clone, Copy)]
 pub enum CreationPoint {
     Store(SlotWord),
     Flush(SlotWord),
@@ -32,7 +32,7 @@ pub enum CreationPoint {
 }
 
 /// A creation under way: of which queue, in which slot, and what it is about to do.
-#[derive(Clone, Copy, Debug, PartialEq, Eq)]
+#[derive(Clone, Copy)]
 pub struct Creation {
     pub slot: SlotId,
     pub queue: Queue,

@@ -13,7 +13,7 @@ use persist::WordMemory;
 use stepper::After;
 
 /// Which word of which slot a recovery is about to load, and what it has loaded of that slot.
-#[derive(Clone, Copy, Debug, PartialEq, Eq)]
+#[derive(Clone, Copy)]
 pub enum DirectoryPoint {
     LoadGate {
         slot: SlotId,
@@ -33,14 +33,14 @@ pub enum DirectoryPoint {
 }
 
 /// A recovery of the directory under way: what it has found so far, and what it is about to load.
-#[derive(Clone, Copy, Debug, PartialEq, Eq)]
+#[derive(Clone, Copy)]
 pub struct DirectoryRecovery {
     pub(crate) places: Places,
     pub(crate) at: DirectoryPoint,
 }
 
 /// What a step of a directory's recovery did.
-#[derive(Clone, Copy, Debug, PartialEq, Eq)]
+#[derive(Clone, Copy)]
 pub struct Recovered {
     /// The slot whose gate it found open just now.
     pub opened: Option<SlotId>,

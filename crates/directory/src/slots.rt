@@ -9,7 +9,7 @@ use arena::{SLOTS, SlotId};
 use std::marker::Model;
 
 /// What each slot has: no two have queues of one name.
-#[derive(Clone, Copy, Debug)]
+#[derive(Clone, Copy)]
 pub struct Directory {
     places: Places,
 }

@@ -15,7 +15,7 @@ use persist::KeptWords;
 use words::{MAX_CLIENTS, MAX_RECORDS, Refusal, Rule};
 
 /// What the kept words of a broker say.
-#[derive(Clone, Copy, Debug)]
+#[derive(Clone, Copy)]
 pub struct KeptBroker {
     pub layout: BrokerLayout,
     pub directory: Directory,

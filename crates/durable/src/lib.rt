@@ -8,7 +8,7 @@ use std::marker::Model;
 use words::{Client, MAX_CLIENTS, Reports, Row, Told};
 
 /// What a durable queue tells its clients: at first what the base tells, then what the last recovery read.
-#[derive(Clone, Copy, Debug)]
+#[derive(Clone, Copy)]
 pub struct DurableQueue {
     told: Reports,
 }

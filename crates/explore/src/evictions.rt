@@ -13,7 +13,7 @@ use rand_core::utils::NextWord;
 use rand_pcg::Pcg32;
 
 /// Which words are evicted before each crash, from word 0 up.
-#[derive(Clone, Copy, Debug, PartialEq, Eq)]
+#[derive(Clone, Copy)]
 pub enum Evictions {
     /// No word.
     None,

@@ -12,7 +12,7 @@ use std::alloc::Global;
 use words::{Refusal, Reply};
 
 /// A word whose cached value is not the kept one.
-#[derive(Clone, Copy, Debug)]
+#[derive(Clone, Copy)]
 pub(crate) struct Differs {
     pub(crate) word: u64,
     pub(crate) cached: u64,

@@ -8,7 +8,7 @@ use crate::evictions::Evictions;
 
 /// Some of the points of a script, numbered as in the whole report: those from one on, so many of them, or all that
 /// there are from there on.
-#[derive(Clone, Copy, Debug, PartialEq, Eq)]
+#[derive(Clone, Copy)]
 pub struct Part {
     pub from: u64,
     pub count: Option<u64>,
@@ -21,7 +21,7 @@ pub const WHOLE: Part = Part {
 };
 
 /// Which points are wanted, and which words are evicted before each.
-#[derive(Clone, Copy, Debug, PartialEq, Eq)]
+#[derive(Clone, Copy)]
 pub struct Wanted {
     pub evictions: Evictions,
     pub part: Part,

@@ -15,7 +15,7 @@ use std::alloc::Global;
 use words::{Client, MAX_CLIENTS, Refusal, Reports, Told, Value};
 
 /// What a crash at one point of a script comes to, once recovery has ended.
-#[derive(Debug, Drop)]
+#[derive(Drop)]
 pub struct Point {
     /// How many steps recovery had.
     pub steps: u64,

@@ -20,7 +20,7 @@ use std::thread::Threads;
 use words::Refusal;
 
 /// What a crash at each point of a script comes to, in the order of the points.
-#[derive(Debug, Drop)]
+#[derive(Drop)]
 pub struct Report {
     pub points: Vec<Point>,
     /// How many of the points are not ok.

@@ -3,21 +3,21 @@
 use words::Value;
 
 /// A value ahead of others, by its put and by the take that is known to have got it.
-#[derive(Clone, Copy, Debug, PartialEq, Eq)]
+#[derive(Clone, Copy)]
 pub struct Ahead {
     pub put: usize,
     pub take: usize,
 }
 
 /// A place at which values were not yet out of the queue, and where that is seen by a value ahead of them, this one.
-#[derive(Clone, Copy, Debug, PartialEq, Eq)]
+#[derive(Clone, Copy)]
 pub struct Since {
     pub place: usize,
     pub ahead: Option<Ahead>,
 }
 
 /// Values that cannot all be out of the queue by some place.
-#[derive(Debug, Drop)]
+#[derive(Drop)]
 pub enum Lack {
     /// The value of this put came out by this take, which began later.
     Late {
@@ -33,7 +33,7 @@ pub enum Lack {
 }
 
 /// From one place up to another the queue held something.
-#[derive(Debug, Drop)]
+#[derive(Drop)]
 pub struct Piece {
     pub from: usize,
     pub to: usize,
@@ -41,7 +41,7 @@ pub struct Piece {
 }
 
 /// Why no order explains what is known.
-#[derive(Debug, Drop)]
+#[derive(Drop)]
 pub enum Witness {
     /// A value came out that nobody can have put.
     Invented {

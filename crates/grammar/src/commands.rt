@@ -8,7 +8,7 @@ use std::fmt;
 use words::{Client, Kind, Refusal, Value};
 
 /// The first line of a script: the queue that it is about.
-#[derive(Clone, Copy, Debug, PartialEq, Eq)]
+#[derive(Clone, Copy)]
 pub struct QueueLine {
     pub kind: Kind,
     pub clients: u32,
@@ -26,7 +26,7 @@ impl QueueLine {
 }
 
 /// Any later line of a script.
-#[derive(Clone, Copy, Debug, PartialEq, Eq)]
+#[derive(Clone, Copy)]
 pub enum Command {
     /// The client of a durable queue starts an enqueue.
     Enq {

@@ -7,7 +7,7 @@ use crate::commands::{Command, QueueLine};
 use std::marker::Model;
 
 /// No queue and nothing to do, or a queue that is served and the commands on it, in order.
-#[derive(Debug, Drop)]
+#[derive(Drop)]
 pub struct Script {
     pub(crate) queue: Option<QueueLine>,
     pub(crate) commands: Vec<Command>,

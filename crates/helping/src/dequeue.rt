@@ -15,7 +15,7 @@ use stepper::{After, Loading, Resume, Stepped, cas_at, load_at, store_at};
 use words::{NodeId, Reply, Token, Value};
 
 /// How a claim went.
-#[derive(Clone, Copy, Debug, PartialEq, Eq)]
+#[derive(Clone, Copy)]
 pub enum Claim {
     Won,
     /// Another dequeue had claimed the node.
@@ -35,7 +35,7 @@ impl Claim {
 }
 
 /// A claim that was made, and the node that it is of.
-#[derive(Clone, Copy, Debug, PartialEq, Eq)]
+#[derive(Clone, Copy)]
 pub struct Claimed {
     pub(crate) token: Token,
     pub(crate) first: NodeId,
@@ -55,7 +55,7 @@ impl Claimed {
 }
 
 /// About to load the head.
-#[derive(Clone, Copy, Debug, PartialEq, Eq)]
+#[derive(Clone, Copy)]
 pub struct DequeueLoadHead {
     pub(crate) token: Token,
 }
@@ -78,7 +78,7 @@ impl Resume for DequeueLoadHead {
 }
 
 /// About to load the tail.
-#[derive(Clone, Copy, Debug, PartialEq, Eq)]
+#[derive(Clone, Copy)]
 pub struct DequeueLoadTail {
     pub(crate) token: Token,
     pub(crate) first: NodeId,
@@ -105,7 +105,7 @@ impl Resume for DequeueLoadTail {
 
 /// About to load the head node's link. Where it is 0 the queue is empty at this moment, and the dequeue that answers
 /// Empty has taken effect here.
-#[derive(Clone, Copy, Debug, PartialEq, Eq)]
+#[derive(Clone, Copy)]
 pub struct DequeueLoadNext {
     pub(crate) token: Token,
     pub(crate) first: NodeId,
@@ -136,7 +136,7 @@ impl Resume for DequeueLoadNext {
 /// About to see whether the head is still there. Each step asks of its next point whether it is this one and has no
 /// `next`. That field stands first, where each small point has its first: a point is then handed on in words, and not
 /// in a tag and the seven bytes behind it. See `bench/acts.sh`.
-#[derive(Clone, Copy, Debug, PartialEq, Eq)]
+#[derive(Clone, Copy)]
 pub struct DequeueCheckHead {
     pub(crate) next: NodeId,
     pub(crate) token: Token,
@@ -179,7 +179,7 @@ impl Resume for DequeueCheckHead {
 }
 
 /// About to say that the queue is empty.
-#[derive(Clone, Copy, Debug, PartialEq, Eq)]
+#[derive(Clone, Copy)]
 pub struct DequeueStoreEmpty {
     pub(crate) token: Token,
 }
@@ -201,7 +201,7 @@ impl Resume for DequeueStoreEmpty {
 }
 
 /// About to move a lagging tail on.
-#[derive(Clone, Copy, Debug, PartialEq, Eq)]
+#[derive(Clone, Copy)]
 pub struct DequeueHelpTail {
     pub(crate) token: Token,
     pub(crate) last: NodeId,
@@ -228,7 +228,7 @@ impl Resume for DequeueHelpTail {
 }
 
 /// About to load a part of the message of the first node.
-#[derive(Clone, Copy, Debug, PartialEq, Eq)]
+#[derive(Clone, Copy)]
 pub struct DequeueLoadItem {
     pub(crate) token: Token,
     pub(crate) first: NodeId,
@@ -271,7 +271,7 @@ impl Resume for DequeueLoadItem {
 }
 
 /// About to claim the node.
-#[derive(Clone, Copy, Debug, PartialEq, Eq)]
+#[derive(Clone, Copy)]
 pub struct DequeueClaim {
     pub(crate) token: Token,
     pub(crate) first: NodeId,
@@ -314,7 +314,7 @@ impl Resume for DequeueClaim {
 }
 
 /// About to say what the winner got.
-#[derive(Clone, Copy, Debug, PartialEq, Eq)]
+#[derive(Clone, Copy)]
 pub struct DequeueStoreResult {
     pub(crate) claimed: Claimed,
 }
@@ -336,7 +336,7 @@ impl Resume for DequeueStoreResult {
 }
 
 /// About to move the head to the claimed node. The winner is answered, a loser begins anew.
-#[derive(Clone, Copy, Debug, PartialEq, Eq)]
+#[derive(Clone, Copy)]
 pub struct DequeueMoveHead {
     pub(crate) claimed: Claimed,
 }

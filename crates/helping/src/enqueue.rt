@@ -11,7 +11,7 @@ use stepper::{After, Resume, Stepped, cas_at, load_at};
 use words::{NodeId, Reply};
 
 /// About to load the tail.
-#[derive(Clone, Copy, Debug, PartialEq, Eq)]
+#[derive(Clone, Copy)]
 pub struct EnqueueLoadTail {
     pub(crate) node: NodeId,
 }
@@ -34,7 +34,7 @@ impl Resume for EnqueueLoadTail {
 }
 
 /// About to load the last node's link.
-#[derive(Clone, Copy, Debug, PartialEq, Eq)]
+#[derive(Clone, Copy)]
 pub struct EnqueueLoadNext {
     pub(crate) node: NodeId,
     pub(crate) last: NodeId,
@@ -60,7 +60,7 @@ impl Resume for EnqueueLoadNext {
 }
 
 /// About to see whether the tail is still there.
-#[derive(Clone, Copy, Debug, PartialEq, Eq)]
+#[derive(Clone, Copy)]
 pub struct EnqueueCheckTail {
     pub(crate) node: NodeId,
     pub(crate) last: NodeId,
@@ -90,7 +90,7 @@ impl Resume for EnqueueCheckTail {
 }
 
 /// About to link the node behind the last.
-#[derive(Clone, Copy, Debug, PartialEq, Eq)]
+#[derive(Clone, Copy)]
 pub struct EnqueueLink {
     pub(crate) node: NodeId,
     pub(crate) last: NodeId,
@@ -119,7 +119,7 @@ impl Resume for EnqueueLink {
 }
 
 /// About to move the tail to the node. Whether it moves or not, the call is done.
-#[derive(Clone, Copy, Debug, PartialEq, Eq)]
+#[derive(Clone, Copy)]
 pub struct EnqueueMoveTail {
     pub(crate) node: NodeId,
     pub(crate) last: NodeId,
@@ -144,7 +144,7 @@ impl Resume for EnqueueMoveTail {
 }
 
 /// About to move a lagging tail on.
-#[derive(Clone, Copy, Debug, PartialEq, Eq)]
+#[derive(Clone, Copy)]
 pub struct EnqueueHelpTail {
     pub(crate) node: NodeId,
     pub(crate) last: NodeId,

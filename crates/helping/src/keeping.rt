@@ -19,7 +19,7 @@ use stepper::{After, Stepped, fence_at, flush_at};
 use words::{NodeId, Reply, Token};
 
 /// What a call is about to keep.
-#[derive(Clone, Copy, Debug, PartialEq, Eq)]
+#[derive(Clone, Copy)]
 pub enum Keeping {
     // A crash would lose a link that is not kept, and with it a node whose enqueue was answered
     // (`answers_before_the_link_is_kept`).
@@ -42,14 +42,14 @@ pub enum Keeping {
 }
 
 /// The link to an enqueue's own node: the enqueue takes effect, if no other fence or eviction kept it before.
-#[derive(Clone, Copy, Debug, PartialEq, Eq)]
+#[derive(Clone, Copy)]
 pub struct KeepLink {
     pub(crate) node: NodeId,
     pub(crate) last: NodeId,
 }
 
 /// Another's link, which the tail has to pass for an enqueue.
-#[derive(Clone, Copy, Debug, PartialEq, Eq)]
+#[derive(Clone, Copy)]
 pub struct KeepPassedLink {
     pub(crate) node: NodeId,
     pub(crate) last: NodeId,
@@ -57,13 +57,13 @@ pub struct KeepPassedLink {
 }
 
 /// The answer that the queue is empty.
-#[derive(Clone, Copy, Debug, PartialEq, Eq)]
+#[derive(Clone, Copy)]
 pub struct KeepEmpty {
     pub(crate) token: Token,
 }
 
 /// An enqueuer's link, which the tail has to pass for a dequeue.
-#[derive(Clone, Copy, Debug, PartialEq, Eq)]
+#[derive(Clone, Copy)]
 pub struct KeepDequeuePassedLink {
     pub(crate) token: Token,
     pub(crate) last: NodeId,
@@ -72,13 +72,13 @@ pub struct KeepDequeuePassedLink {
 
 /// The claim, the call's own or another's: the winner's dequeue takes effect, if no other fence or eviction kept it
 /// before.
-#[derive(Clone, Copy, Debug, PartialEq, Eq)]
+#[derive(Clone, Copy)]
 pub struct KeepClaim {
     pub(crate) claimed: Claimed,
 }
 
 /// What the winner got.
-#[derive(Clone, Copy, Debug, PartialEq, Eq)]
+#[derive(Clone, Copy)]
 pub struct KeepResult {
     pub(crate) claimed: Claimed,
 }

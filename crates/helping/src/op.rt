@@ -23,7 +23,7 @@ use stepper::{
 use words::{Call, Kind, NodeId, Reply};
 
 /// A call under way, by the point where it waits.
-#[derive(Clone, Copy, Debug, PartialEq, Eq)]
+#[derive(Clone, Copy)]
 pub enum Op {
     PrepareStore(PrepareStore),
     PrepareFlush(PrepareFlush),

@@ -4,7 +4,7 @@
 pub type Act = protocol::Act<usize>;
 
 /// How a list of acts went.
-#[derive(Clone, Copy, Debug, PartialEq, Eq)]
+#[derive(Clone, Copy)]
 pub struct Ran {
     /// How many acts were accepted.
     pub taken: u64,

@@ -70,6 +70,7 @@ impl Core {
 
     /// Recovery makes a step, and once it is at its end the clients are told what it read. It answers whether it is,
     /// and the change of a kept value.
+    #[inline(always)]
     fn recover_once<M: WordMemory>(&mut self, memory: &mut M) -> Noted<bool>
         requires down { is_some self.old.trace.recovery ≡ true }
         requires room { 0 < self.old.trace.room }
@@ -94,6 +95,7 @@ impl Core {
     }
 
     /// As [`Core::recover_step`], with the change of a kept word that the step made.
+    #[inline(always)]
     pub fn recover_step_noted<M: WordMemory>(
         &mut self,
         memory: &mut M,
@@ -119,6 +121,7 @@ impl Core {
     /// told what became of its last call. The words are lent through recovery's port: where recovery waits to complete
     /// a flush, it has asked for it there. It is refused, in this order, where no recovery is under way (AlreadyReady),
     /// and for want of memory (NoMemory).
+    #[inline(always)]
     pub fn recover_step<M: WordMemory>(&mut self, memory: &mut M) -> Result<bool, Refusal>
         requires holds { Holds (state_of self.old (M.words memory.old)) }
         requires asked { IfRecoveryAsked self.old.shape self.old.trace.recovery (M.lent memory.old).request }

@@ -11,7 +11,7 @@ use logqueue::LogQueue;
 use words::{Client, Kind, MAX_CLIENTS, Refusal, Reports};
 
 /// What a queue keeps for its clients, by its kind.
-#[derive(Clone, Copy, Debug)]
+#[derive(Clone, Copy)]
 pub enum Queue {
     Durable(DurableQueue),
     Log(LogQueue),

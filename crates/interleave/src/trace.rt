@@ -199,6 +199,7 @@ impl Trace {
     }
 
     /// Recovery makes a step. It answers whether it has now told every client, and the change of a kept value.
+    #[inline(always)]
     pub(crate) fn recover<M: WordMemory>(&mut self, layout: &Layout, memory: &mut M) -> Noted<bool>
         requires down { is_some self.old.recovery ≡ true }
         requires may { IfSome self.old.recovery (λ r. MayRecover layout.now (M.words memory.old) r) }

@@ -14,7 +14,7 @@ use std::alloc::{AllocError, Global};
 use words::Refusal;
 
 /// What a journal is read as.
-#[derive(Debug, Drop)]
+#[derive(Drop)]
 pub struct Reading {
     /// The key of its sums.
     pub key: [u8; KEY_BYTES],

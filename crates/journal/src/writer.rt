@@ -95,7 +95,7 @@ fn all_of_words(size: usize, changes: &[Change]) -> bool
 }
 
 /// Where a journal goes on: its key, the sum of its last frame or of its head, and how many words it is of.
-#[derive(Debug, Drop)]
+#[derive(Drop)]
 pub struct Writer {
     key: [u8; KEY_BYTES],
     sum: [u8; SUM_BYTES],

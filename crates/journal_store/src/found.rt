@@ -8,7 +8,7 @@ use journal::{Reading, hides_kept_frame};
 use std::alloc::Global;
 
 /// What a file has.
-#[derive(Debug, Drop)]
+#[derive(Drop)]
 pub struct Found {
     /// The words that its journal leaves.
     pub words: Vec<u64>,

@@ -10,7 +10,7 @@ use words::{Client, MAX_CALL_NUMBER, MAX_CLIENTS, Outcome, Reports, Told, Verdic
 
 /// What a log queue tells its clients, at first what the base tells and then what the last recovery read,
 /// and the floor of each client's numbers.
-#[derive(Clone, Copy, Debug)]
+#[derive(Clone, Copy)]
 pub struct LogQueue {
     told: Reports,
     floors: [u64; MAX_CLIENTS],

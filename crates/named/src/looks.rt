@@ -22,7 +22,7 @@ use words::{Client, Kind, Refusal, Told, Value};
 
 /// What a client finds in an open queue: its kind, and the number of the call that the client has under way, if it has
 /// one; of a durable queue's call it is 0.
-#[derive(Clone, Copy, Debug, PartialEq, Eq)]
+#[derive(Clone, Copy)]
 pub struct Look {
     pub kind: Kind,
     pub calling: Option<u64>,

@@ -4,7 +4,7 @@ use arena::SlotId;
 use directory::DirectoryRecovery;
 
 /// What a recovery of a broker is about to do: to read the directory, and then to recover its queues in slot order.
-#[derive(Clone, Copy, Debug, PartialEq, Eq)]
+#[derive(Clone, Copy)]
 pub enum BrokerRecovery {
     /// The directory is read.
     ReadDirectory { at: DirectoryRecovery },

@@ -5,7 +5,7 @@ ghost use Rattle.words.specs.declared.limits.TheConstants.{MAX_CLIENTS, MAX_RECO
 ghost use Rattle.options.specs.declared.limits.TheConstants.{MAX_WORKERS};
 
 /// What `pqd` is asked to do.
-#[derive(Clone, Copy, Debug, PartialEq, Eq)]
+#[derive(Clone, Copy)]
 pub struct Options<'a> {
     /// The clients of a queue, from 1 to `words::MAX_CLIENTS`.
     pub clients: u32,
@@ -27,7 +27,7 @@ pub struct Options<'a> {
 }
 
 /// The journal of a broker.
-#[derive(Clone, Copy, Debug, PartialEq, Eq)]
+#[derive(Clone, Copy)]
 pub struct Journaling<'a> {
     /// The path of its file.
     pub file: &'a str,
@@ -35,7 +35,7 @@ pub struct Journaling<'a> {
 }
 
 /// When the system is asked to keep a journal's bytes, so that they outlive a loss of power.
-#[derive(Clone, Copy, Debug, PartialEq, Eq)]
+#[derive(Clone, Copy)]
 pub enum Syncing {
     /// Before each reply that follows them.
     Always,
@@ -46,7 +46,7 @@ pub enum Syncing {
 }
 
 /// How clients reach the broker.
-#[derive(Clone, Copy, Debug, PartialEq, Eq)]
+#[derive(Clone, Copy)]
 pub enum Mode {
     /// By standard input and standard output.
     Pipe,
@@ -55,7 +55,7 @@ pub enum Mode {
 }
 
 /// Where a server listens, and how many connections it serves at once.
-#[derive(Clone, Copy, Debug, PartialEq, Eq)]
+#[derive(Clone, Copy)]
 pub struct Listening {
     /// 0 lets the system choose.
     pub port: u16,

@@ -6,7 +6,7 @@ ghost use Rattle.options.specs.Numbers.{IsNumberGiven, given_text};
 use std::fmt;
 
 /// An option that is a number.
-#[derive(Clone, Copy, Debug)]
+#[derive(Clone, Copy)]
 pub(crate) struct NumberOption {
     /// Its name, without the dashes.
     pub name: &'static str,
@@ -48,7 +48,7 @@ impl NumberOption {
 }
 
 /// An option was given what it does not take.
-#[derive(Clone, Copy, Debug)]
+#[derive(Clone, Copy)]
 pub(crate) enum Misfit {
     /// What is no number of its range.
     Number {

@@ -1,7 +1,7 @@
 //! What `pqx` is asked to do.
 
 /// Which words are kept just before each crash.
-#[derive(Clone, Copy, Debug, PartialEq, Eq)]
+#[derive(Clone, Copy)]
 pub enum Choice {
     None,
     All,
@@ -9,7 +9,7 @@ pub enum Choice {
 }
 
 /// What a report on points is of.
-#[derive(Clone, Copy, Debug, PartialEq, Eq)]
+#[derive(Clone, Copy)]
 pub struct PointOptions<'a> {
     pub choice: Choice,
     /// The state at which draws begin.
@@ -23,7 +23,7 @@ pub struct PointOptions<'a> {
 }
 
 /// What a report on the points of a whole broker is of.
-#[derive(Clone, Copy, Debug, PartialEq, Eq)]
+#[derive(Clone, Copy)]
 pub struct BrokerPointOptions {
     pub choice: Choice,
     /// The state at which draws begin.
@@ -31,14 +31,14 @@ pub struct BrokerPointOptions {
 }
 
 /// What the transcript of a script is asked to be.
-#[derive(Clone, Copy, Debug, PartialEq, Eq)]
+#[derive(Clone, Copy)]
 pub struct RunOptions<'a> {
     /// The path of the file for the run's page, if there is to be one.
     pub page: Option<&'a str>,
 }
 
 /// What a verdict on a recording is asked to be.
-#[derive(Clone, Copy, Debug, PartialEq, Eq)]
+#[derive(Clone, Copy)]
 pub struct CheckOptions<'a> {
     /// The entries of the order that explains the recording are printed, too.
     pub order: bool,
@@ -47,7 +47,7 @@ pub struct CheckOptions<'a> {
 }
 
 /// What `pqx` is asked to do.
-#[derive(Clone, Copy, Debug, PartialEq, Eq)]
+#[derive(Clone, Copy)]
 pub enum PqxAsked<'a> {
     /// The transcript of a script.
     Run(RunOptions<'a>),

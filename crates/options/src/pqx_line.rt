@@ -17,7 +17,7 @@ use std::alloc::{AllocError, Global};
 use std::convert::AsStr;
 
 /// An option was given what it does not take.
-#[derive(Clone, Copy, Debug)]
+#[derive(Clone, Copy)]
 enum Misfit {
     Evict,
     Draw,

@@ -4,7 +4,7 @@ use std::fmt;
 use words::{Client, Reply};
 
 /// A call that went on alone from a point of a script to its answer.
-#[derive(Clone, Copy, Debug, PartialEq, Eq)]
+#[derive(Clone, Copy)]
 pub struct Alone {
     /// After how many of the accepted acts.
     pub point: u64,

@@ -3,7 +3,7 @@
 ghost use Rattle.std.specs.Prelude.{◌≡◌, if◌then◌else◌};
 
 /// Why a line of a script gave nothing: memory was refused to it.
-#[derive(Clone, Copy, Debug, PartialEq, Eq)]
+#[derive(Clone, Copy)]
 pub enum Unfollowed {
     /// Nothing was made of it, and it may be made again.
     PutOff,

@@ -17,7 +17,7 @@ pub use laws::{
 use stepper::Begun;
 
 /// A call under way.
-#[derive(Clone, Copy, Debug, PartialEq, Eq)]
+#[derive(Clone, Copy)]
 pub struct UnderWay {
     /// Where its Call stands in the history.
     pub place: usize,
@@ -27,7 +27,7 @@ pub struct UnderWay {
 }
 
 /// A record that a call took.
-#[derive(Clone, Copy, Debug, PartialEq, Eq)]
+#[derive(Clone, Copy)]
 pub struct Issued {
     /// Where the Call stands in the history.
     pub place: usize,

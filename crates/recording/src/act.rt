@@ -4,7 +4,7 @@ use findings::ranked;
 use words::Value;
 
 /// What a call was answered.
-#[derive(Clone, Copy, Debug, PartialEq, Eq)]
+#[derive(Clone, Copy)]
 pub enum Said {
     Done,
     /// The value of this number.
@@ -13,7 +13,7 @@ pub enum Said {
 }
 
 /// What happened. Calls and values go by their numbers.
-#[derive(Clone, Copy, Debug, PartialEq, Eq)]
+#[derive(Clone, Copy)]
 pub enum Act {
     Begin(usize),
     Answer(usize, Said),
@@ -29,7 +29,7 @@ pub enum Act {
 }
 
 /// What happened, the line that says so, and one more than the number of its time, if it has one.
-#[derive(Clone, Copy, Debug)]
+#[derive(Clone, Copy)]
 pub struct Step {
     pub act: Act,
     pub line: u32,
@@ -37,7 +37,7 @@ pub struct Step {
 }
 
 /// A call: its client, the number by which the history knows that, and the value that it puts.
-#[derive(Clone, Copy, Debug)]
+#[derive(Clone, Copy)]
 pub struct CallOf {
     pub client: usize,
     pub number: u8,

@@ -3,7 +3,7 @@
 use std::alloc::{AllocError, Global};
 
 /// What a client is about.
-#[derive(Clone, Copy, Debug, PartialEq, Eq)]
+#[derive(Clone, Copy)]
 pub(crate) enum State {
     /// It has called nothing, or its last call is over.
     Idle,

@@ -4,7 +4,7 @@ use std::alloc::{AllocError, AllocFailed};
 use std::fmt;
 
 /// What is wrong with a line.
-#[derive(Debug, Drop)]
+#[derive(Drop)]
 pub enum Why {
     NoObject,
     NoLine,
@@ -42,7 +42,7 @@ impl fmt::Display for Why {
 }
 
 /// Why a recording was not read.
-#[derive(Debug, Drop)]
+#[derive(Drop)]
 pub enum Fault {
     Memory,
     Line(u32, Why),

@@ -1,7 +1,7 @@
 //! What a line says.
 
 /// What a call was answered, or what else became of it.
-#[derive(Debug, Drop)]
+#[derive(Drop)]
 pub(crate) enum Answered {
     Done,
     Got(String),
@@ -11,21 +11,21 @@ pub(crate) enum Answered {
 }
 
 /// What somebody learnt of a call.
-#[derive(Debug, Drop)]
+#[derive(Drop)]
 pub(crate) enum Told {
     NotTaken,
     Taken(Answered),
 }
 
 /// A moment of a clock, and its text.
-#[derive(Debug, Drop)]
+#[derive(Drop)]
 pub(crate) struct Moment {
     pub at: f64,
     pub text: String,
 }
 
 /// A whole call, with its times.
-#[derive(Debug, Drop)]
+#[derive(Drop)]
 pub(crate) struct Whole {
     pub client: String,
     pub puts: Option<String>,
@@ -35,7 +35,7 @@ pub(crate) struct Whole {
 }
 
 /// What a line says. Clients and values are JSON texts.
-#[derive(Debug, Drop)]
+#[derive(Drop)]
 pub(crate) enum Line {
     Base(Vec<String>),
     Final(Vec<String>),

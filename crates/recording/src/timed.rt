@@ -7,7 +7,7 @@ use std::alloc::{AllocError, Global};
 use std::cmp::Ordering;
 
 /// What a time is of.
-#[derive(Clone, Copy, Debug, PartialEq, Eq, PartialOrd, Ord)]
+#[derive(Clone, Copy, PartialEq, Eq, PartialOrd, Ord)]
 enum Kind {
     Begin,
     End,
@@ -15,7 +15,7 @@ enum Kind {
 }
 
 /// A time of a line: calls come before answers, and answers before crashes.
-#[derive(Clone, Copy, Debug)]
+#[derive(Clone, Copy)]
 struct Tick {
     at: f64,
     kind: Kind,

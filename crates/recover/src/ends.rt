@@ -38,7 +38,7 @@ pub(crate) fn past_status(cur: NodeId, node: NodeId, moved: bool) -> RecoveryPoi
 }
 
 /// About to load the head, from which recovery walks.
-#[derive(Clone, Copy, Debug, PartialEq, Eq)]
+#[derive(Clone, Copy)]
 pub struct RecoveryLoadHead {}
 
 // Nodes before the kept head are answered already: from node 0 the walk would be as long as the queue is old.
@@ -63,7 +63,7 @@ impl Resume for RecoveryLoadHead {
 }
 
 /// About to load the link of the node that it has come to. `moved` says whether the head is right already.
-#[derive(Clone, Copy, Debug, PartialEq, Eq)]
+#[derive(Clone, Copy)]
 pub struct RecoveryLoadNext {
     pub(crate) cur: NodeId,
     pub(crate) moved: bool,
@@ -101,7 +101,7 @@ impl Resume for RecoveryLoadNext {
 }
 
 /// Log queue: about to load the entry that inserted the node.
-#[derive(Clone, Copy, Debug, PartialEq, Eq)]
+#[derive(Clone, Copy)]
 pub struct RecoveryLoadInsert {
     pub(crate) cur: NodeId,
     pub(crate) node: NodeId,
@@ -133,7 +133,7 @@ impl Resume for RecoveryLoadInsert {
 }
 
 /// Log queue: about to say that the enqueue took effect.
-#[derive(Clone, Copy, Debug, PartialEq, Eq)]
+#[derive(Clone, Copy)]
 pub struct RecoveryStoreStatus {
     pub(crate) cur: NodeId,
     pub(crate) node: NodeId,
@@ -175,7 +175,7 @@ impl Resume for RecoveryStoreStatus {
 }
 
 /// About to see whether the node is claimed.
-#[derive(Clone, Copy, Debug, PartialEq, Eq)]
+#[derive(Clone, Copy)]
 pub struct RecoveryLoadMark {
     pub(crate) cur: NodeId,
     pub(crate) node: NodeId,
@@ -208,7 +208,7 @@ impl Resume for RecoveryLoadMark {
 }
 
 /// About to say what the dequeue that claimed the node got.
-#[derive(Clone, Copy, Debug, PartialEq, Eq)]
+#[derive(Clone, Copy)]
 pub struct RecoveryStoreResult {
     pub(crate) node: NodeId,
     pub(crate) mark: Token,
@@ -238,7 +238,7 @@ impl Resume for RecoveryStoreResult {
 }
 
 /// About to store the head, at the last claimed node. An unclaimed one may follow.
-#[derive(Clone, Copy, Debug, PartialEq, Eq)]
+#[derive(Clone, Copy)]
 pub struct RecoveryStoreHead {
     pub(crate) cur: NodeId,
     pub(crate) unclaimed: Option<NodeId>,
@@ -272,7 +272,7 @@ impl Resume for RecoveryStoreHead {
 }
 
 /// About to store the tail, at the last node.
-#[derive(Clone, Copy, Debug, PartialEq, Eq)]
+#[derive(Clone, Copy)]
 pub struct RecoveryStoreTail {
     pub(crate) cur: NodeId,
 }

@@ -18,7 +18,7 @@ use stepper::{After, Stepped, fence_at, flush_at};
 use words::{Client, NodeId, Token};
 
 /// What recovery is about to keep.
-#[derive(Clone, Copy, Debug, PartialEq, Eq)]
+#[derive(Clone, Copy)]
 pub enum RecoveryKeeping {
     // A status that is not kept is lost where recovery is cut off once the client was told by it
     // (`recovery_does_not_keep_a_status`).
@@ -35,7 +35,7 @@ pub enum RecoveryKeeping {
 }
 
 /// Log queue: that an enqueue took effect.
-#[derive(Clone, Copy, Debug, PartialEq, Eq)]
+#[derive(Clone, Copy)]
 pub struct KeepStatus {
     pub(crate) cur: NodeId,
     pub(crate) node: NodeId,
@@ -44,21 +44,21 @@ pub struct KeepStatus {
 }
 
 /// What the dequeue that claimed the node got.
-#[derive(Clone, Copy, Debug, PartialEq, Eq)]
+#[derive(Clone, Copy)]
 pub struct KeepResult {
     pub(crate) node: NodeId,
     pub(crate) mark: Token,
 }
 
 /// The head, at the last claimed node. An unclaimed one may follow.
-#[derive(Clone, Copy, Debug, PartialEq, Eq)]
+#[derive(Clone, Copy)]
 pub struct KeepHead {
     pub(crate) cur: NodeId,
     pub(crate) unclaimed: Option<NodeId>,
 }
 
 /// The tail, at the last node.
-#[derive(Clone, Copy, Debug, PartialEq, Eq)]
+#[derive(Clone, Copy)]
 pub struct KeepTail {}
 
 /// Where recovery goes on past the head: with the unclaimed node behind it, if there is one.

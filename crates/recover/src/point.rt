@@ -16,7 +16,7 @@ use stepper::{Points, Resume, Stepped};
 use words::{Client, Told};
 
 /// A waiting point of recovery.
-#[derive(Clone, Copy, Debug, PartialEq, Eq)]
+#[derive(Clone, Copy)]
 pub enum RecoveryPoint {
     RecoveryLoadHead(RecoveryLoadHead),
     RecoveryLoadNext(RecoveryLoadNext),
@@ -42,7 +42,7 @@ pub enum RecoveryPoint {
 }
 
 /// What recovery tells a client.
-#[derive(Clone, Copy, Debug, PartialEq, Eq)]
+#[derive(Clone, Copy)]
 pub struct Report {
     pub client: Client,
     pub told: Told,

@@ -15,7 +15,7 @@ use words::{Client, MAX_CLIENTS, Reports, Told};
 
 /// A recovery under way: what it has told so far, and where it waits. What is told stands beside the point, so that a
 /// step copies the point alone.
-#[derive(Clone, Copy, Debug, PartialEq, Eq)]
+#[derive(Clone, Copy)]
 pub struct Recovery {
     pub(crate) told: Reports,
     pub(crate) at: RecoveryPoint,
@@ -34,6 +34,7 @@ pub fn boot() -> Recovery
 impl Recovery {
     /// One step: exactly one access. It answers whether the queue is ready now, and each client was told; beside it
     /// stands the change of a kept value, where the access was a fence that made one.
+    #[inline(always)]
     pub fn step<M: WordMemory>(&mut self, layout: &Layout, memory: &mut M) -> Noted<bool>
         requires room { size_of layout.now ≤ length (M.words memory.old).cached }
         requires point { IsPoint layout.now self.old.at }

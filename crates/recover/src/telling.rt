@@ -54,7 +54,7 @@ fn row(client: Client, answer: u64) -> After<RecoveryPoint, Report>
 }
 
 /// About to load what a client announced last.
-#[derive(Clone, Copy, Debug, PartialEq, Eq)]
+#[derive(Clone, Copy)]
 pub struct RecoveryLoadAnnouncement {
     pub(crate) client: Client,
 }
@@ -90,7 +90,7 @@ impl Resume for RecoveryLoadAnnouncement {
 }
 
 /// Durable queue: about to load the answer of the client's dequeue.
-#[derive(Clone, Copy, Debug, PartialEq, Eq)]
+#[derive(Clone, Copy)]
 pub struct RecoveryLoadCell {
     pub(crate) client: Client,
     pub(crate) token: Token,
@@ -116,7 +116,7 @@ impl Resume for RecoveryLoadCell {
 }
 
 /// Durable queue: about to load a part of the message of the node that the cell names.
-#[derive(Clone, Copy, Debug, PartialEq, Eq)]
+#[derive(Clone, Copy)]
 pub struct RecoveryLoadGot {
     pub(crate) client: Client,
     pub(crate) node: NodeId,
@@ -154,7 +154,7 @@ impl Resume for RecoveryLoadGot {
 }
 
 /// Log queue: about to load the number of the announced call.
-#[derive(Clone, Copy, Debug, PartialEq, Eq)]
+#[derive(Clone, Copy)]
 pub struct RecoveryLoadNumber {
     pub(crate) client: Client,
     pub(crate) token: Token,
@@ -184,7 +184,7 @@ impl Resume for RecoveryLoadNumber {
 }
 
 /// Log queue: about to load whether it is an enqueue.
-#[derive(Clone, Copy, Debug, PartialEq, Eq)]
+#[derive(Clone, Copy)]
 pub struct RecoveryLoadKind {
     pub(crate) client: Client,
     pub(crate) token: Token,
@@ -220,7 +220,7 @@ impl Resume for RecoveryLoadKind {
 }
 
 /// Log queue: about to load its status.
-#[derive(Clone, Copy, Debug, PartialEq, Eq)]
+#[derive(Clone, Copy)]
 pub struct RecoveryLoadStatus {
     pub(crate) client: Client,
     pub(crate) token: Token,
@@ -271,7 +271,7 @@ impl Resume for RecoveryLoadStatus {
 }
 
 /// Log queue: about to see whether the enqueue's node was claimed, which it is only once it was linked.
-#[derive(Clone, Copy, Debug, PartialEq, Eq)]
+#[derive(Clone, Copy)]
 pub struct RecoveryLoadRemove {
     pub(crate) client: Client,
     pub(crate) token: Token,
@@ -307,7 +307,7 @@ impl Resume for RecoveryLoadRemove {
 }
 
 /// Log queue: about to load the node that the dequeue removed.
-#[derive(Clone, Copy, Debug, PartialEq, Eq)]
+#[derive(Clone, Copy)]
 pub struct RecoveryLoadEntryNode {
     pub(crate) client: Client,
     pub(crate) token: Token,
@@ -348,7 +348,7 @@ impl Resume for RecoveryLoadEntryNode {
 }
 
 /// Log queue: about to load a part of the message of that node.
-#[derive(Clone, Copy, Debug, PartialEq, Eq)]
+#[derive(Clone, Copy)]
 pub struct RecoveryLoadRemovedItem {
     pub(crate) client: Client,
     pub(crate) number: u64,

@@ -8,7 +8,7 @@ use arena::Layout;
 use words::Client;
 
 /// What a node or a record of a renewed queue is for.
-#[derive(Clone, Copy, Debug, PartialEq, Eq)]
+#[derive(Clone, Copy)]
 pub(crate) enum Role {
     /// Node 0.
     Sentinel,

@@ -7,7 +7,7 @@ use words::{Call, Reply};
 pub const NEVER: usize = 18_446_744_073_709_551_615;
 
 /// What is known of a call.
-#[derive(Clone, Copy, Debug, PartialEq, Eq)]
+#[derive(Clone, Copy, PartialEq, Eq)]
 pub enum Known {
     /// It took effect, with this reply.
     Taken(Reply),
@@ -28,7 +28,7 @@ impl Known {
 }
 
 /// A call from one place to another, and what is known of it.
-#[derive(Clone, Copy, Debug)]
+#[derive(Clone, Copy)]
 pub struct KnownCall {
     pub begin: usize,
     pub end: usize,

@@ -7,14 +7,14 @@ use std::alloc::{AllocError, Global};
 use words::{Call, Reply, Value};
 
 /// From one place to another.
-#[derive(Clone, Copy, Debug)]
+#[derive(Clone, Copy)]
 pub(crate) struct Span {
     pub begin: usize,
     pub end: usize,
 }
 
 /// A value that certainly was put: its put, and its take if it is known to have come out, or given one.
-#[derive(Clone, Copy, Debug)]
+#[derive(Clone, Copy)]
 pub(crate) struct Item {
     pub value: Value,
     pub put: Span,

@@ -59,7 +59,7 @@ pub(crate) fn open_takes(alloc: Global, calls: &[KnownCall]) -> Result<OpenTakes
 }
 
 /// Missing items that need a take: each may have one of a range of the open takes.
-#[derive(Clone, Copy, Debug)]
+#[derive(Clone, Copy)]
 struct Need {
     item: usize,
     low: usize,

@@ -35,7 +35,7 @@ pub struct Left<F: Appender + Drop> {
 }
 
 /// Why a broker is not served with a journal, or not to its end.
-#[derive(Clone, Copy, Debug, PartialEq, Eq)]
+#[derive(Clone, Copy)]
 pub enum Unserved {
     /// It is refused, as without one; or its journal could not begin.
     Refused(Refusal),

@@ -30,7 +30,7 @@ const REST_MILLIS: u64 = 10;
 const WAKE_SECONDS: u64 = 1;
 
 /// How connections are served.
-#[derive(Clone, Copy, Debug, PartialEq, Eq)]
+#[derive(Clone, Copy)]
 pub struct Service {
     /// How many threads serve, each one connection at a time. One serves at least.
     pub workers: u32,

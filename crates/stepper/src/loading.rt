@@ -8,7 +8,7 @@ use arena::{Part, value_of};
 use words::Value;
 
 /// What is loaded of a message: the parts before the one that comes next.
-#[derive(Clone, Copy, Debug, PartialEq, Eq)]
+#[derive(Clone, Copy)]
 pub enum Loading {
     Length,
     First { len: u64 },

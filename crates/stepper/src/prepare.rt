@@ -10,7 +10,7 @@ use persist::WordMemory;
 use words::{Call, Client, Kind, NodeId, Token, Value};
 
 /// A call that has taken a record of its client's.
-#[derive(Clone, Copy, Debug, PartialEq, Eq)]
+#[derive(Clone, Copy)]
 pub struct Begun {
     pub client: Client,
     /// How many records the client had used before.
@@ -26,7 +26,7 @@ pub struct Begun {
 pub type Prepared = Begun;
 
 /// Where a preparation waits.
-#[derive(Clone, Copy, Debug, PartialEq, Eq)]
+#[derive(Clone, Copy)]
 pub enum Prepare {
     // The bump word comes first and the announcement last. A record written before it is used up could be taken again
     // after a crash; an announcement kept before its record would name a call that is not there:
@@ -40,7 +40,7 @@ pub enum Prepare {
 
 /// About to store a word of the record. Its fields stand in the order in which a step moves them at the least cost:
 /// see `bench/acts.sh`.
-#[derive(Clone, Copy, Debug, PartialEq, Eq)]
+#[derive(Clone, Copy)]
 pub struct PrepareStore {
     pub(crate) write: Write,
     pub(crate) index: u8,
@@ -48,7 +48,7 @@ pub struct PrepareStore {
 }
 
 /// About to ask that it be kept. Its fields stand as those of `PrepareStore`.
-#[derive(Clone, Copy, Debug, PartialEq, Eq)]
+#[derive(Clone, Copy)]
 pub struct PrepareFlush {
     pub(crate) write: Write,
     pub(crate) index: u8,
@@ -56,7 +56,7 @@ pub struct PrepareFlush {
 }
 
 /// About to keep it. Its fields stand as those of `PrepareStore`.
-#[derive(Clone, Copy, Debug, PartialEq, Eq)]
+#[derive(Clone, Copy)]
 pub struct PrepareFence {
     pub(crate) write: Write,
     pub(crate) index: u8,

@@ -6,7 +6,7 @@ use arena::Layout;
 use persist::{Change, WordMemory};
 
 /// What comes after a step of a machine with these waiting points and this answer.
-#[derive(Clone, Copy, Debug, PartialEq, Eq)]
+#[derive(Clone, Copy)]
 pub enum After<P, A> {
     /// It goes on from here.
     More(P),
@@ -15,7 +15,7 @@ pub enum After<P, A> {
 }
 
 /// What a step did: what comes after it, and the change of a kept value, where it was a fence that made one.
-#[derive(Clone, Copy, Debug, PartialEq, Eq)]
+#[derive(Clone, Copy)]
 pub struct Stepped<P, A> {
     pub after: After<P, A>,
     pub change: Option<Change>,

@@ -56,6 +56,7 @@ impl Book {
 }
 
 /// Promises room for so many changes more, where changes are noted; if there is memory for it.
+#[inline(always)]
 pub(crate) fn promise(book: &mut Option<Book>, changes: usize) -> bool
     ensures on { (words : List ℕ) → IsBookOn book.old book.new words words }
     ensures more { result ≡ true → promised_in book.new ≡ with_promised changes (promised_in book.old) }
@@ -100,6 +101,7 @@ fn note(book: &mut Option<Book>, change: Option<Change>)
 }
 
 /// What an act answered, whose change is noted.
+#[inline(always)]
 pub(crate) fn noted<T>(
     book: &mut Option<Book>,
     act: Result<Noted<T>, Refusal>,

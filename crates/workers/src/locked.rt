@@ -197,6 +197,7 @@ impl<J: Naming> Locked<J> {
     }
 
     /// One step of the seat's open call.
+    #[inline(always)]
     pub(crate) fn step(&mut self, roll: &Roll<Entry>, seat: Seat<J>) -> (Seat<J>, Took)
         requires roll { roll.now ≡ J.roll.lists }
         requires open { ends_open seat.list.items ≡ true }

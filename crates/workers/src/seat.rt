@@ -36,6 +36,7 @@ impl<J: Naming> Seat<J> {
     }
 
     /// The seat, whose open call has made one step more.
+    #[inline(always)]
     pub(crate) fn with_step(self) -> Self
         ensures client { result.client ≡ self.client }
         ensures list { result.list.items ≡ self.list.items }

@@ -89,6 +89,7 @@ impl<J: Naming> Shared<J> {
     }
 
     /// One step of the seat's open call.
+    #[inline(always)]
     fn step<R: Wait>(&self, rt: &R, seat: Seat<J>) -> (Seat<J>, Took)
         requires { ends_open seat.list.items ≡ true }
         ensures client { result.0.client ≡ seat.client }
