@@ -1,7 +1,7 @@
 #!/usr/bin/env python3
 """Where a check's time goes: seconds a function, and for what, by when the files of the check were kept.
 
-    cd crates/NAME && rm -rf out/incremental && rt check --jobs 1; ../../bench/proof_times.py [COUNT]
+    cd crates/NAME && rm -rf out/incremental && rt check --jobs 1; python3 ../../bench/proof_times.py [COUNT]
 
 It prints the COUNT dearest functions (30 if left out), each with its dearest parts: Lts is of lifetimes, Proof what the
 tactics search for, Answers what is answered by hand. One job keeps one file after the other, so the time between two is
