@@ -5,7 +5,7 @@ use Rattle.directory.specs.declared.queue.Queue.{Queue}
 use Rattle.interleave.specs.State.{State, kept_content}
 use Rattle.named.specs.Brokers.{Brokered}
 use Rattle.playing.specs.Transcript.{told_at}
-use Rattle.explore.specs.Reports.{content_text, end_text}
+use Rattle.script_reports.specs.Reports.{content_text, end_text}
 use Rattle.broker_script.specs.Play.{Played, the_world}
 
 -- what the clients below this one are told, parted by commas

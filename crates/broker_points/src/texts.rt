@@ -5,7 +5,7 @@ ghost use Rattle.words.specs.Text.{told_text};
 ghost use Rattle.interleave.specs.State.{kept_content};
 ghost use Rattle.named.specs.Brokers.{world_at, IsWell};
 ghost use Rattle.playing.specs.Transcript.{told_at};
-ghost use Rattle.explore.specs.Reports.{content_text, end_text};
+ghost use Rattle.script_reports.specs.Reports.{content_text, end_text};
 ghost use Rattle.broker_script.specs.Play.{the_world};
 ghost use Rattle.broker_points.specs.Reports.{all_told_text, line_of_point, queue_text, queues_text, slot_text, start_text, told_lead};
 

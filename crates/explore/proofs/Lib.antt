@@ -4,7 +4,5 @@ mod Explained
 mod Sizes
 mod Copied
 mod Sweeps
-mod Written
-mod Printing
-mod Parts
+mod Numbers
 pub mod Facts

@@ -1,4 +1,2 @@
 pub mod Points
 pub mod Pieces
-pub mod Reports
-pub mod Runs

@@ -79,7 +79,7 @@ fn drawn_count(words: usize, mut draws: Pcg32) -> usize
 }
 
 /// How many of so many words are evicted before the crash at a point.
-pub(crate) fn evicted_count(evictions: Evictions, words: usize, point: u64) -> usize
+pub fn evicted_count(evictions: Evictions, words: usize, point: u64) -> usize
     ensures { result ≡ length (evicted_words evictions words point) }
 {
     match evictions {

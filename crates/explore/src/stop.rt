@@ -1,12 +1,14 @@
 //! What is found where a world stops, while the world itself goes on.
 
 ghost use Rattle.std.specs.Prelude.{◌≡◌, ◌≤◌, OnOk, IfOk, IfErr, IsTrue, length};
+ghost use Rattle.arena.specs.Layout.{size_of};
 ghost use Rattle.interleave.specs.Holds.{Holds};
 ghost use Rattle.interleave.specs.State.{kept_content, order_in};
 ghost use Rattle.explore.specs.Points.{events_once_ready, found_of, found_stopped, recovered};
 
 use crate::copy::{Recovered, copy_kept, recover};
 use crate::point::Point;
+use arena::Layout;
 use events::{Event, Events, History, Order, Sequence, copied};
 use history::check_content;
 use interleave::{Core, World};
@@ -54,7 +56,7 @@ fn tell_stop(
 }
 
 /// A history of nothing.
-pub(crate) fn no_history(alloc: Global) -> History {
+fn no_history(alloc: Global) -> History {
     History {
         base: Sequence::new(alloc),
         told: [Told::None; MAX_CLIENTS],
@@ -64,18 +66,43 @@ pub(crate) fn no_history(alloc: Global) -> History {
 
 /// How much had happened at a point, and the order by then.
 #[derive(Drop)]
-pub(crate) struct Seen {
+struct Seen {
     events: usize,
     order: Order,
 }
 
 /// What is seen of a world in which nothing happened.
-pub(crate) fn nothing_seen(alloc: Global) -> Seen {
+fn nothing_seen(alloc: Global) -> Seen {
     Seen {
         events: 0,
         order: Order {
             entries: Sequence::new(alloc),
         },
+    }
+}
+
+/// What looks at a world that stops, point after point.
+#[derive(Drop)]
+pub(crate) struct Probe {
+    /// A copy of what the world keeps, which recovers in its place.
+    copy: Memory,
+    /// What happened to the world, and to the copy since.
+    history: History,
+    seen: Seen,
+}
+
+impl Probe {
+    /// One for worlds of this layout.
+    pub(crate) fn new(alloc: Global, layout: Layout) -> Result<Self, Refusal>
+        ensures size { IfOk result (λ probe. length probe.copy.words.kept ≡ size_of layout) }
+        ensures errors { IfErr result (λ e. e ≡ Refusal.NoMemory) }
+    {
+        let copy = Memory::new(alloc, layout.size())?;
+        Ok(Probe {
+            copy,
+            history: no_history(alloc),
+            seen: nothing_seen(alloc),
+        })
     }
 }
 
@@ -125,28 +152,26 @@ fn is_right(
 pub(crate) fn stop(
     alloc: Global,
     world: &World,
-    copy: &mut Memory,
-    history: &mut History,
-    seen: &mut Seen,
+    probe: &mut Probe,
     before: Option<&Point>,
 ) -> Result<Point, Refusal>
     requires holds { Holds world.now.now }
-    requires size { length copy.old.words.kept ≡ length world.now.now.words.kept }
+    requires size { length probe.old.copy.words.kept ≡ length world.now.now.words.kept }
     ensures found { IfOk result (λ point. found_of point ≡ found_stopped world.now.now) }
-    ensures size { length copy.new.words.kept ≡ length copy.old.words.kept }
+    ensures size { length probe.new.copy.words.kept ≡ length probe.old.copy.words.kept }
     ensures errors { IfErr result (λ e. e ≡ Refusal.NoMemory) }
 {
-    copy_kept(copy, world.memory());
-    let Recovered { steps, told } = recover(copy, world);
-    let content = Core::new(alloc, *world.layout()).content(copy)?;
+    copy_kept(&mut probe.copy, world.memory());
+    let Recovered { steps, told } = recover(&mut probe.copy, world);
+    let content = Core::new(alloc, *world.layout()).content(&probe.copy)?;
     let events = world.history().events.len();
     let order = world.order()?;
-    let ok = if was_right(seen, before, events, &order, &told, &content) {
+    let ok = if was_right(&probe.seen, before, events, &order, &told, &content) {
         true
     } else {
-        is_right(alloc, world, history, &order, &told, &content)?
+        is_right(alloc, world, &mut probe.history, &order, &told, &content)?
     };
-    *seen = Seen { events, order };
+    probe.seen = Seen { events, order };
     Ok(Point {
         steps: u64::from(steps),
         told,

@@ -7,11 +7,9 @@ ghost use Rattle.explore.specs.Points.{all_found, found_between, found_stopped, 
 use crate::evictions::Evictions;
 use crate::point::{Point, crash};
 use crate::spare::Spare;
-use crate::stop::{Seen, no_history, nothing_seen, stop};
+use crate::stop::{Probe, stop};
 use arena::Layout;
-use events::History;
 use interleave::{Act, World};
-use persist::Memory;
 use playing::{attempt, attempt_all};
 use std::alloc::Global;
 use words::Refusal;
@@ -29,17 +27,15 @@ fn add_stop(
     points: &mut Vec<Point>,
     alloc: Global,
     world: &World,
-    copy: &mut Memory,
-    history: &mut History,
-    seen: &mut Seen,
+    probe: &mut Probe,
 ) -> Result<(), Refusal>
     requires holds { Holds world.now.now }
-    requires size { length copy.old.words.kept ≡ length world.now.now.words.kept }
+    requires size { length probe.old.copy.words.kept ≡ length world.now.now.words.kept }
     ensures points { OnOk result (AddsFound points.old.items points.new.items (found_stopped world.now.now)) }
-    ensures size { length copy.new.words.kept ≡ length copy.old.words.kept }
+    ensures size { length probe.new.copy.words.kept ≡ length probe.old.copy.words.kept }
     ensures errors { IfErr result (λ e. e ≡ Refusal.NoMemory) }
 {
-    let found = stop(alloc, world, copy, history, seen, points.last())?;
+    let found = stop(alloc, world, probe, points.last())?;
     push(points, found)
 }
 
@@ -52,6 +48,26 @@ fn go_on(world: &mut World, acts: &[Act], point: usize) -> Result<(), Refusal>
         attempt(world, acts[point])?;
     }
     Ok(())
+}
+
+/// Adds what is found if a world stops now, and makes the act at this place, if there is one.
+fn pass_point(
+    points: &mut Vec<Point>,
+    alloc: Global,
+    world: &mut World,
+    probe: &mut Probe,
+    acts: &[Act],
+    point: usize,
+) -> Result<(), Refusal>
+    requires holds { Holds world.old.now }
+    requires size { length probe.old.copy.words.kept ≡ length world.old.now.words.kept }
+    ensures points { OnOk result (AddsFound points.old.items points.new.items (found_stopped world.old.now)) }
+    ensures size { length probe.new.copy.words.kept ≡ length probe.old.copy.words.kept }
+    ensures world { OnOk result (MakesNextAct acts.now point world.old.now world.new.now) }
+    ensures errors { IfErr result (λ e. e ≡ Refusal.NoMemory) }
+{
+    add_stop(points, alloc, world, probe)?;
+    go_on(world, acts, point)
 }
 
 /// The points from one on, up to another, where no word is evicted. One world makes the acts, and at each point a copy
@@ -70,22 +86,12 @@ pub(crate) fn stopped_points(
 {
     let mut world = World::make(alloc, layout)?;
     attempt_all(&mut world, &acts[..from])?;
-    let mut copy = Memory::new(alloc, layout.size())?;
-    let mut history = no_history(alloc);
-    let mut seen = nothing_seen(alloc);
+    let mut probe = Probe::new(alloc, layout)?;
     let mut points = Vec::new(alloc);
     for point in from..to {
         // Its clauses make known what holds of the world.
         let _ = world.history();
-        add_stop(
-            &mut points,
-            alloc,
-            &world,
-            &mut copy,
-            &mut history,
-            &mut seen,
-        )?;
-        go_on(&mut world, acts, point)?;
+        pass_point(&mut points, alloc, &mut world, &mut probe, acts, point)?;
     }
     Ok(points)
 }

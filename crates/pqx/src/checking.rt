@@ -1,12 +1,13 @@
 //! The verdict on a recording.
 
 use options::CheckOptions;
-use recording::{Answer, Fault, Recording, Watch, answer_of, page_of, print_order, read, verdict};
+use recording::{Answer, Fault, Recording, Watch, answer_of, read};
 use std::alloc::AllocError;
 use std::io::{IsTerminal, Read, Write};
 use std::process::ExitCode;
 use std::time::{Clock, Duration};
 use std::{fs, io};
+use verdicts::{page_of, print_order, verdict};
 use words::Refusal;
 
 /// For so many milliseconds nothing is shown.

@@ -50,7 +50,7 @@ fn print_points<H: Threads + Sync>(
     let mut reader = CountedReader::new(rt.reader());
     let mut writer = CountedWriter::new(io::writer(rt));
     let mut progress = Progress::new(rt);
-    let printed = explore::run_points(
+    let printed = script_reports::run_points(
         threads,
         rt.alloc(),
         &mut reader,
@@ -72,7 +72,7 @@ fn show_points<H: Threads + Sync>(
     let mut reader = CountedReader::new(rt.reader());
     let mut writer = CountedWriter::new(io::writer(rt));
     let mut progress = Progress::new(rt);
-    let shown = explore::run_page(
+    let shown = script_reports::run_page(
         threads,
         rt.alloc(),
         &mut reader,
@@ -123,9 +123,9 @@ fn follow_script(rt: &HostRuntime, asked: RunOptions<'_>) -> Result<(), Refusal>
     let mut reader = CountedReader::new(rt.reader());
     let mut writer = CountedWriter::new(io::writer(rt));
     let Some(path) = asked.page else {
-        return explore::run(rt.alloc(), &mut reader, &mut writer);
+        return script_reports::run(rt.alloc(), &mut reader, &mut writer);
     };
-    let page = explore::run_story(rt.alloc(), &mut reader, &mut writer)?;
+    let page = script_reports::run_story(rt.alloc(), &mut reader, &mut writer)?;
     fs::write(rt, path, &page).map_err(|_| Refusal::WriteFailed)
 }
 
@@ -139,7 +139,7 @@ fn answer<H: Threads + Sync>(
     let mut writer = CountedWriter::new(io::writer(rt));
     match asked {
         PqxAsked::Run(asked) => follow_script(rt, asked)?,
-        PqxAsked::Alone => explore::run_alone(rt.alloc(), &mut reader, &mut writer)?,
+        PqxAsked::Alone => script_reports::run_alone(rt.alloc(), &mut reader, &mut writer)?,
         PqxAsked::Points(points) => report(threads, rt, points)?,
         PqxAsked::BrokerRun => broker_script::run(rt.alloc(), &mut reader, &mut writer)?,
         PqxAsked::BrokerPoints(points) => report_on_broker(threads, rt, points)?,

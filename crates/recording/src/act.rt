@@ -61,7 +61,7 @@ pub struct Recording {
 
 impl Recording {
     /// The message that stands for a value: its number among those that are put.
-    pub(crate) fn message(&self, value: usize) -> Value {
+    pub fn message(&self, value: usize) -> Value {
         ranked(self.ranks.get(value).copied().unwrap_or(u32::MAX))
     }
 }

@@ -134,11 +134,7 @@ impl Walk {
 }
 
 /// The calls of the first so many steps.
-pub(crate) fn prefix_of(
-    alloc: Global,
-    recording: &Recording,
-    count: usize,
-) -> Result<Prefix, AllocError> {
+pub fn prefix_of(alloc: Global, recording: &Recording, count: usize) -> Result<Prefix, AllocError> {
     let refused = refused(alloc, recording, count)?;
     let mut number_of = Vec::with_capacity(alloc, recording.calls.len())?;
     for _ in 0..recording.calls.len() {
@@ -174,7 +170,7 @@ pub(crate) fn prefix_of(
 
 impl Prefix {
     /// The call that begins at a place.
-    pub(crate) fn call_at(&self, recording: &Recording, place: usize) -> Option<usize> {
+    pub fn call_at(&self, recording: &Recording, place: usize) -> Option<usize> {
         let step = self.step_of.get(place).copied()?;
         match recording.steps.get(step)?.act {
             Act::Begin(call) => Some(call),

@@ -1,7 +1,7 @@
 //! A script from a reader to a writer, either of which fails after each byte.
 
 use devices::{FaultyReader, FaultyWriter};
-use explore::run;
+use script_reports::run;
 use std::test::Fail;
 use words::Refusal;
 

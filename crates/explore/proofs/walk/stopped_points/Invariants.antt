@@ -11,7 +11,7 @@ abbrev pub invariant-loop-point : goal.invariant-loop-point
 invariant-loop-point l =
     record {
       world : l.world.now ≡ after_acts (new_world l.fn.layout) (take l.point l.acts);
-      size : length l.copy.words.kept ≡ size_of l.fn.layout;
+      size : length l.probe.copy.words.kept ≡ size_of l.fn.layout;
       made :
           map found_of l.points.items
           ≡ map (found_at l.fn.layout l.acts no_word) (range_with_len l.from (l.point - l.from));

@@ -2,7 +2,7 @@ use Rattle.std.proofs.Common.{◌≡◌, ◌+◌, ◌-◌, ℕ, drop, min, take,
 use Rattle.std.specs.Prelude.{Option}
 use Rattle.std.specs.List.{range_with_len}
 use Rattle.explore.specs.Points.{first_of}
-use Rattle.explore.proofs.Parts.{drop_range, take_range}
+use Rattle.explore.proofs.Numbers.{drop_range, take_range}
 use Rattle.explore.proofs.part.Part.ends.Goals as goal
 
 pub returns-in_default-clause-part : goal.returns-in_default-clause-part

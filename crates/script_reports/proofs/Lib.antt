@@ -1,0 +1,4 @@
+-- Lemmas that the answers cite.
+mod Written
+mod Printing
+mod Parts
