@@ -3,10 +3,10 @@
 ghost use Rattle.std.specs.Prelude.{◌≡◌, IfOk, codes, false};
 ghost use Rattle.clap.specs.Words.{app_of, new_app, rule_of};
 ghost use Rattle.options.specs.Commands.{HasNoGlobals};
-ghost use Rattle.options.specs.PqxCommands.{broker_app, check_app, points_app, run_app, pqx_app, scripts_app, top_app, with_part_rules};
+ghost use Rattle.options.specs.PqxCommands.{broker_app, check_app, points_app, run_app, pqx_app, scripts_app, top_app};
 ghost use Rattle.options.specs.PqxCommands.{word_rule};
 
-use crate::commands::{flag, option};
+use crate::commands::{Described, with_options};
 use crate::program::VERSION;
 use clap::{Arg, Command};
 use std::alloc::{AllocError, Global};
@@ -69,14 +69,19 @@ fn check<'a>(alloc: Global) -> Result<Command<'a>, AllocError>
             "Finds an order that explains the recording that standard input has, or says why there is none",
         )
         .after_help(RECORDINGS);
-    let order = flag(alloc, "order", "Prints the entries of the order, too");
-    let page = option(
-        alloc,
-        "page",
-        "FILE",
-        "Shows the recording on a page, which is written to this file",
-    );
-    command.arg(order)?.arg(page)
+    let options = [
+        Described {
+            name: "order",
+            value: None,
+            help: "Prints the entries of the order, too",
+        },
+        Described {
+            name: "page",
+            value: Some("FILE"),
+            help: "Shows the recording on a page, which is written to this file",
+        },
+    ];
+    with_options(alloc, command, &options)
 }
 
 /// What is done with a broker's script.
@@ -100,40 +105,20 @@ fn broker<'a>(alloc: Global) -> Result<Command<'a>, AllocError>
             "Follows the script of a whole broker that standard input has, or crashes the broker at each of its points",
         )
         .after_help(BROKERS);
-    let task = task(alloc);
-    let evict = option(
-        alloc,
-        "evict",
-        "WORDS",
-        "With points, which words are kept just before each crash: none, all or drawn [default: none]",
-    );
-    let draw = option(
-        alloc,
-        "draw",
-        "N",
-        "Where the draws of --evict drawn begin [default: 1]",
-    );
-    command.arg(task)?.arg(evict)?.arg(draw)
-}
-
-/// The command with the options of a part of a report.
-fn with_part_options<'a>(alloc: Global, command: Command<'a>) -> Result<Command<'a>, AllocError>
-    ensures app { IfOk result (λ c. app_of c ≡ with_part_rules (app_of command.entry)) }
-    ensures local { HasNoGlobals command.entry → IfOk result HasNoGlobals }
-{
-    let from = option(
-        alloc,
-        "from",
-        "P",
-        "Prints the points from this one on, numbered as they are [default: 0]",
-    );
-    let count = option(
-        alloc,
-        "count",
-        "N",
-        "Prints at most so many points [default: all that are left]",
-    );
-    command.arg(from)?.arg(count)
+    let command = command.arg(task(alloc))?;
+    let options = [
+        Described {
+            name: "evict",
+            value: Some("WORDS"),
+            help: "With points, which words are kept just before each crash: none, all or drawn [default: none]",
+        },
+        Described {
+            name: "draw",
+            value: Some("N"),
+            help: "Where the draws of --evict drawn begin [default: 1]",
+        },
+    ];
+    with_options(alloc, command, &options)
 }
 
 /// `points [--evict none|all|drawn] [--draw N] [--from P] [--count N] [--page FILE]`
@@ -146,25 +131,34 @@ fn points<'a>(alloc: Global) -> Result<Command<'a>, AllocError>
             "Crashes at each point of the script that standard input has, and prints what each recovery finds",
         )
         .after_help(SCRIPTS);
-    let evict = option(
-        alloc,
-        "evict",
-        "WORDS",
-        "Which words are kept just before each crash: none, all or drawn [default: none]",
-    );
-    let draw = option(
-        alloc,
-        "draw",
-        "N",
-        "Where the draws of --evict drawn begin [default: 1]",
-    );
-    let page = option(
-        alloc,
-        "page",
-        "FILE",
-        "Shows the same on a page, which is written to this file",
-    );
-    with_part_options(alloc, command.arg(evict)?.arg(draw)?)?.arg(page)
+    let options = [
+        Described {
+            name: "evict",
+            value: Some("WORDS"),
+            help: "Which words are kept just before each crash: none, all or drawn [default: none]",
+        },
+        Described {
+            name: "draw",
+            value: Some("N"),
+            help: "Where the draws of --evict drawn begin [default: 1]",
+        },
+        Described {
+            name: "from",
+            value: Some("P"),
+            help: "Prints the points from this one on, numbered as they are [default: 0]",
+        },
+        Described {
+            name: "count",
+            value: Some("N"),
+            help: "Prints at most so many points [default: all that are left]",
+        },
+        Described {
+            name: "page",
+            value: Some("FILE"),
+            help: "Shows the same on a page, which is written to this file",
+        },
+    ];
+    with_options(alloc, command, &options)
 }
 
 /// `run [--page FILE]`
@@ -175,13 +169,12 @@ fn run<'a>(alloc: Global) -> Result<Command<'a>, AllocError>
     let command = Command::new(alloc, "run")
         .about("Follows the script that standard input has, and prints what happens")
         .after_help(SCRIPTS);
-    let page = option(
-        alloc,
-        "page",
-        "FILE",
-        "Shows the acts of the run on a page, which is written to this file",
-    );
-    command.arg(page)
+    let options = [Described {
+        name: "page",
+        value: Some("FILE"),
+        help: "Shows the acts of the run on a page, which is written to this file",
+    }];
+    with_options(alloc, command, &options)
 }
 
 /// A command that takes no option.
@@ -207,15 +200,14 @@ fn with_scripts<'a>(alloc: Global) -> Result<Command<'a>, AllocError>
     ensures app { IfOk result (λ c. app_of c ≡ scripts_app) }
 {
     let run = run(alloc)?;
-    let alone = plain(
+    let command = top(alloc).subcommand(run)?;
+    let points = points(alloc)?;
+    let command = command.subcommand(points)?;
+    command.subcommand(plain(
         alloc,
         "alone",
         "At each point of the script, lets each call under way go on alone, and prints its answer",
-    );
-    top(alloc)
-        .subcommand(run)?
-        .subcommand(points(alloc)?)?
-        .subcommand(alone)
+    ))
 }
 
 /// `pqx run`, `pqx points`, `pqx alone`, `pqx broker`, `pqx check`
@@ -223,6 +215,7 @@ pub(crate) fn pqx<'a>(alloc: Global) -> Result<Command<'a>, AllocError>
     ensures app { IfOk result (λ c. app_of c ≡ pqx_app) }
 {
     let broker = broker(alloc)?;
+    let command = with_scripts(alloc)?.subcommand(broker)?;
     let check = check(alloc)?;
-    with_scripts(alloc)?.subcommand(broker)?.subcommand(check)
+    command.subcommand(check)
 }
