@@ -28,6 +28,7 @@ fn look_away(turns: u32) {
 }
 
 /// The lock, once it is free. What lies under it has the invariant of its type, as behind [`Mutex::lock`].
+// Part of its caller: a lock that is free is taken by one access.
 #[inline(always)]
 pub fn lock<'a, R: Wait, T>(rt: &R, mutex: &'a Mutex<T>) -> MutexGuard<'a, T> {
     let mut turns = FEWEST;

@@ -56,6 +56,7 @@ impl Book {
 }
 
 /// Promises room for so many changes more, where changes are noted; if there is memory for it.
+// Part of its caller, as `Shared::step` is.
 #[inline(always)]
 pub(crate) fn promise(book: &mut Option<Book>, changes: usize) -> bool
     ensures on { (words : List ℕ) → IsBookOn book.old book.new words words }
@@ -89,19 +90,25 @@ pub(crate) fn release_all(book: &mut Option<Book>)
     }
 }
 
-/// Notes the change of an act, if it made one.
-fn note(book: &mut Option<Book>, change: Option<Change>)
+/// Notes the change that an act made, if it made one. An answer is long and seldom there, so it is looked at where it
+/// lies and not copied.
+// Part of its caller, as `Shared::step` is.
+#[inline(always)]
+pub(crate) fn note_act<T>(book: &mut Option<Book>, act: &Result<Noted<T>, Refusal>)
     requires { HasPromised 1 (promised_in book.old) }
-    ensures on { (was now : List ℕ) → IsNoted change was now → IsBookOn book.old book.new was now }
+    ensures on { (was now : List ℕ) → IsNoted (change_in act.now) was now → IsBookOn book.old book.new was now }
     ensures less { promised_in book.old ≡ with_promised 1 (promised_in book.new) }
 {
     if let Some(book) = book {
+        let change = match act {
+            Ok(noted) => noted.change,
+            Err(_) => None,
+        };
         book.notes.note(change);
     }
 }
 
 /// What an act answered, whose change is noted.
-#[inline(always)]
 pub(crate) fn noted<T>(
     book: &mut Option<Book>,
     act: Result<Noted<T>, Refusal>,
@@ -111,16 +118,8 @@ pub(crate) fn noted<T>(
     ensures on { (was now : List ℕ) → IsNoted (change_in act) was now → IsBookOn book.old book.new was now }
     ensures less { promised_in book.old ≡ with_promised 1 (promised_in book.new) }
 {
-    match act {
-        Ok(Noted { answer, change }) => {
-            note(book, change);
-            Ok(answer)
-        }
-        Err(refusal) => {
-            note(book, None);
-            Err(refusal)
-        }
-    }
+    note_act(book, &act);
+    Ok(act?.answer)
 }
 
 /// The queue of a slot begins in fresh records, as [`session::Session::renew`] makes it. Where changes are noted, its

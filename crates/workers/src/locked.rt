@@ -10,13 +10,14 @@ ghost use Rattle.workers.specs.Noting.{IsBooked};
 ghost use Rattle.workers.specs.Refusals.{IsSettledStart, IsWhyRefused, WasSettled};
 ghost use Rattle.workers.specs.Seats.{AreEmpty};
 
-use crate::book::{Book, noted, promise};
+use crate::book::{Book, note_act, promise};
 use crate::deeds::Register;
 use crate::entry::{End, Entry, Request, Took, last_queue};
 use crate::marks::Marks;
 use crate::naming::Naming;
 use crate::seat::{Seat, known, with_entry, with_last};
 use arena::SlotId;
+use persist::Noted;
 use roll::{Roll, Token};
 use session::Session;
 use std::marker::{Model, PhantomData};
@@ -197,6 +198,7 @@ impl<J: Naming> Locked<J> {
     }
 
     /// One step of the seat's open call.
+    // Part of its caller, as `Shared::step` is.
     #[inline(always)]
     pub(crate) fn step(&mut self, roll: &Roll<Entry>, seat: Seat<J>) -> (Seat<J>, Took)
         requires roll { roll.now ≡ J.roll.lists }
@@ -209,13 +211,17 @@ impl<J: Naming> Locked<J> {
         }
         let queue = last_queue(seat.list.as_slice());
         let act = self.session.advance_noted(seat.client, queue);
-        match noted(&mut self.book, act) {
-            Ok(None) => (seat, Took::More),
-            Ok(Some(reply)) => {
-                let answer = reply;
-                let seat = with_last(roll, &mut self.keeper, seat, End::Answered(reply));
-                (seat, Took::Answered(answer))
-            }
+        // By reference, as in `note_act`.
+        note_act(&mut self.book, &act);
+        match act {
+            Ok(Noted { answer, .. }) => match answer {
+                None => (seat, Took::More),
+                Some(reply) => {
+                    let answered = reply;
+                    let seat = with_last(roll, &mut self.keeper, seat, End::Answered(reply));
+                    (seat, Took::Answered(answered))
+                }
+            },
             Err(refusal) => {
                 if is_want_of_memory(refusal) {
                     return (seat, Took::NoMemory);

@@ -17,11 +17,12 @@ use words::Client;
 pub struct Seat<J: Naming> {
     /// Whose seat it is.
     pub client: Client,
+    /// How many steps the open call has made. It lies here so that the three bytes between are all that no field fills:
+    /// seven were copied by halves that overlap, and each copy waited for the one before.
+    pub(crate) steps: u32,
     /// The client's calls, in its own order, since the seats were given or the histories ended last. The last one alone
     /// may be open.
     pub list: Vec<Entry>,
-    /// How many steps the open call has made.
-    pub(crate) steps: u64,
     pub(crate) token: Token<Entry>,
     pub(crate) of: PhantomData<J>,
     pub ghost holds: { IsHolder J.roll.lists client.0 list.items token },
@@ -36,6 +37,7 @@ impl<J: Naming> Seat<J> {
     }
 
     /// The seat, whose open call has made one step more.
+    // Part of its caller, as `Shared::step` is.
     #[inline(always)]
     pub(crate) fn with_step(self) -> Self
         ensures client { result.client ≡ self.client }

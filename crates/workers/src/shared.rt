@@ -89,6 +89,7 @@ impl<J: Naming> Shared<J> {
     }
 
     /// One step of the seat's open call.
+    // A step, and what it calls here, stands in its caller: a seat goes through by value, and would be copied at each call.
     #[inline(always)]
     fn step<R: Wait>(&self, rt: &R, seat: Seat<J>) -> (Seat<J>, Took)
         requires { ends_open seat.list.items ≡ true }
@@ -111,7 +112,7 @@ impl<J: Naming> Shared<J> {
             match took {
                 Took::More => {
                     seat = seat.with_step();
-                    gate.pass(rt, seat.client, seat.steps);
+                    gate.pass(rt, seat.client, u64::from(seat.steps));
                 }
                 Took::Answered(reply) => return (seat, Answer::Reply(reply)),
                 Took::Interrupted => return (seat, Answer::Interrupted),
