@@ -2,3 +2,4 @@
 mod Subcommand
 mod Faultless
 mod ByWords
+mod Fold

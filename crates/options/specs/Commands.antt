@@ -1,11 +1,10 @@
 -- The commands of `pqd`, and the options that each takes, as clap sees them.
-use Rattle.std.specs.Prelude.{◌≡◌, List, Option, None, Some, false, true, codes, fold}
+use Rattle.std.specs.Prelude.{◌≡◌, Some, false, true, codes}
 use Rattle.clap.specs.Words.{App, Rule, Text, new_app, new_rule, with_rule, with_subcommand}
 use Rattle.clap.specs.Simple.{on_top}
 use Rattle.clap.specs.declared.builder.action.ArgAction.TheVariants.{Set, SetTrue}
 use Rattle.clap.specs.declared.builder.command.Command.{Command}
 use Rattle.clap.specs.declared.builder.command.Command.TheViews.{out-Command}
-use Rattle.options.specs.declared.commands.Described.{Described}
 
 -- `--name VALUE`
 abbrev pub option_rule : Text → Rule
@@ -14,18 +13,6 @@ option_rule name = record (new_rule name) { long = Some name; action = Some Set;
 -- `--name`, which takes no value
 abbrev pub flag_rule : Text → Rule
 flag_rule name = record (new_rule name) { long = Some name; action = Some SetTrue }
-
--- an option as clap has it: with a value where the value has a name
-abbrev pub rule_by : {V : Type 0} → Text → Option V → Rule
-rule_by name (Some value) = option_rule name
-rule_by name None = flag_rule name
-
-abbrev pub described_rule : Described → Rule
-described_rule d = rule_by d.name.now d.value
-
--- a command with these options more
-abbrev pub with_rules : App → List Described → App
-with_rules a options = fold (λ all d. with_rule all (described_rule d)) a options
 
 -- neither a command nor a subcommand of it has an argument that holds for the commands below, too
 abbrev pub HasNoGlobals : Command → Type 0

@@ -1,14 +1,13 @@
 //! The commands of `pqx`, and the options that they take.
 
-ghost use Rattle.std.specs.Prelude.{◌≡◌, IfOk, codes, false};
-ghost use Rattle.clap.specs.Words.{app_of, new_app, rule_of};
+ghost use Rattle.std.specs.Prelude.{◌≡◌, IfOk};
+ghost use Rattle.clap.specs.Words.{app_of};
 ghost use Rattle.options.specs.Commands.{HasNoGlobals};
-ghost use Rattle.options.specs.PqxCommands.{broker_app, check_app, points_app, run_app, pqx_app, scripts_app, top_app};
-ghost use Rattle.options.specs.PqxCommands.{word_rule};
+ghost use Rattle.options.specs.PqxCommands.{pqx_app, top_app};
 
-use crate::commands::{Described, with_options};
+use crate::commands::{Described, Form, Subcommand, with_commands};
 use crate::program::VERSION;
-use clap::{Arg, Command};
+use clap::Command;
 use std::alloc::{AllocError, Global};
 
 /// What help says of scripts.
@@ -59,163 +58,118 @@ A recording has a JSON object in each line, of what clients called, what they we
 The status is 0 if one order explains every answer, 1 if none does, 2 if a line is refused, and 3 if neither was found.
 docs/HISTORIES.md has the other lines, the verdicts, and how to record.";
 
-/// `check [--order] [--page FILE]`
-fn check<'a>(alloc: Global) -> Result<Command<'a>, AllocError>
-    ensures app { IfOk result (λ c. app_of c ≡ check_app) }
-    ensures local { IfOk result HasNoGlobals }
-{
-    let command = Command::new(alloc, "check")
-        .about(
-            "Finds an order that explains the recording that standard input has, or says why there is none",
-        )
-        .after_help(RECORDINGS);
-    let options = [
-        Described {
-            name: "order",
-            value: None,
-            help: "Prints the entries of the order, too",
-        },
-        Described {
-            name: "page",
-            value: Some("FILE"),
-            help: "Shows the recording on a page, which is written to this file",
-        },
-    ];
-    with_options(alloc, command, &options)
-}
-
-/// What is done with a broker's script.
-fn task<'a>(alloc: Global) -> Arg<'a>
-    ensures rule { rule_of result ≡ word_rule (codes "task") }
-    ensures local { result.global ≡ false }
-{
-    Arg::new(alloc, "task")
-        .value_name("TASK")
-        .required(true)
-        .help("What is done with the script: run or points")
-}
-
-/// `broker run`, `broker points [--evict none|all|drawn] [--draw N]`
-fn broker<'a>(alloc: Global) -> Result<Command<'a>, AllocError>
-    ensures app { IfOk result (λ c. app_of c ≡ broker_app) }
-    ensures local { IfOk result HasNoGlobals }
-{
-    let command = Command::new(alloc, "broker")
-        .about(
-            "Follows the script of a whole broker that standard input has, or crashes the broker at each of its points",
-        )
-        .after_help(BROKERS);
-    let command = command.arg(task(alloc))?;
-    let options = [
-        Described {
-            name: "evict",
-            value: Some("WORDS"),
-            help: "With points, which words are kept just before each crash: none, all or drawn [default: none]",
-        },
-        Described {
-            name: "draw",
-            value: Some("N"),
-            help: "Where the draws of --evict drawn begin [default: 1]",
-        },
-    ];
-    with_options(alloc, command, &options)
-}
+/// `run [--page FILE]`
+const RUN: Subcommand<'static> = Subcommand {
+    name: "run",
+    about: "Follows the script that standard input has, and prints what happens",
+    notes: Some(SCRIPTS),
+    takes: &[Described {
+        name: "page",
+        form: Form::Option("FILE"),
+        help: "Shows the acts of the run on a page, which is written to this file",
+    }],
+};
 
 /// `points [--evict none|all|drawn] [--draw N] [--from P] [--count N] [--page FILE]`
-fn points<'a>(alloc: Global) -> Result<Command<'a>, AllocError>
-    ensures app { IfOk result (λ c. app_of c ≡ points_app) }
-    ensures local { IfOk result HasNoGlobals }
-{
-    let command = Command::new(alloc, "points")
-        .about(
-            "Crashes at each point of the script that standard input has, and prints what each recovery finds",
-        )
-        .after_help(SCRIPTS);
-    let options = [
+const POINTS: Subcommand<'static> = Subcommand {
+    name: "points",
+    about: "Crashes at each point of the script that standard input has, and prints what each recovery finds",
+    notes: Some(SCRIPTS),
+    takes: &[
         Described {
             name: "evict",
-            value: Some("WORDS"),
+            form: Form::Option("WORDS"),
             help: "Which words are kept just before each crash: none, all or drawn [default: none]",
         },
         Described {
             name: "draw",
-            value: Some("N"),
+            form: Form::Option("N"),
             help: "Where the draws of --evict drawn begin [default: 1]",
         },
         Described {
             name: "from",
-            value: Some("P"),
+            form: Form::Option("P"),
             help: "Prints the points from this one on, numbered as they are [default: 0]",
         },
         Described {
             name: "count",
-            value: Some("N"),
+            form: Form::Option("N"),
             help: "Prints at most so many points [default: all that are left]",
         },
         Described {
             name: "page",
-            value: Some("FILE"),
+            form: Form::Option("FILE"),
             help: "Shows the same on a page, which is written to this file",
         },
-    ];
-    with_options(alloc, command, &options)
-}
+    ],
+};
 
-/// `run [--page FILE]`
-fn run<'a>(alloc: Global) -> Result<Command<'a>, AllocError>
-    ensures app { IfOk result (λ c. app_of c ≡ run_app) }
-    ensures local { IfOk result HasNoGlobals }
-{
-    let command = Command::new(alloc, "run")
-        .about("Follows the script that standard input has, and prints what happens")
-        .after_help(SCRIPTS);
-    let options = [Described {
-        name: "page",
-        value: Some("FILE"),
-        help: "Shows the acts of the run on a page, which is written to this file",
-    }];
-    with_options(alloc, command, &options)
-}
+/// `alone`
+const ALONE: Subcommand<'static> = Subcommand {
+    name: "alone",
+    about: "At each point of the script, lets each call under way go on alone, and prints its answer",
+    notes: Some(SCRIPTS),
+    takes: &[],
+};
 
-/// A command that takes no option.
-fn plain<'a>(alloc: Global, name: &'a str, about: &'a str) -> Command<'a>
-    ensures app { app_of result ≡ new_app name.entry.now }
-    ensures local { HasNoGlobals result }
-{
-    Command::new(alloc, name).about(about).after_help(SCRIPTS)
-}
+/// `broker run`, `broker points [--evict none|all|drawn] [--draw N]`
+const BROKER: Subcommand<'static> = Subcommand {
+    name: "broker",
+    about: "Follows the script of a whole broker that standard input has, or crashes the broker at each of its points",
+    notes: Some(BROKERS),
+    takes: &[
+        Described {
+            name: "task",
+            form: Form::Word("TASK"),
+            help: "What is done with the script: run or points",
+        },
+        Described {
+            name: "evict",
+            form: Form::Option("WORDS"),
+            help: "With points, which words are kept just before each crash: none, all or drawn [default: none]",
+        },
+        Described {
+            name: "draw",
+            form: Form::Option("N"),
+            help: "Where the draws of --evict drawn begin [default: 1]",
+        },
+    ],
+};
+
+/// `check [--order] [--page FILE]`
+const CHECK: Subcommand<'static> = Subcommand {
+    name: "check",
+    about: "Finds an order that explains the recording that standard input has, or says why there is none",
+    notes: Some(RECORDINGS),
+    takes: &[
+        Described {
+            name: "order",
+            form: Form::Flag,
+            help: "Prints the entries of the order, too",
+        },
+        Described {
+            name: "page",
+            form: Form::Option("FILE"),
+            help: "Shows the recording on a page, which is written to this file",
+        },
+    ],
+};
 
 /// `pqx` without its commands.
 fn top<'a>(alloc: Global) -> Command<'a>
     ensures app { app_of result ≡ top_app }
     ensures local { HasNoGlobals result }
 {
-    plain(alloc, "pqx", "Follows scripts of single steps on a queue")
+    Command::new(alloc, "pqx")
+        .about("Follows scripts of single steps on a queue")
+        .after_help(SCRIPTS)
         .version(VERSION)
         .subcommand_required(true)
-}
-
-/// `pqx` with the commands that follow scripts
-fn with_scripts<'a>(alloc: Global) -> Result<Command<'a>, AllocError>
-    ensures app { IfOk result (λ c. app_of c ≡ scripts_app) }
-{
-    let run = run(alloc)?;
-    let command = top(alloc).subcommand(run)?;
-    let points = points(alloc)?;
-    let command = command.subcommand(points)?;
-    command.subcommand(plain(
-        alloc,
-        "alone",
-        "At each point of the script, lets each call under way go on alone, and prints its answer",
-    ))
 }
 
 /// `pqx run`, `pqx points`, `pqx alone`, `pqx broker`, `pqx check`
 pub(crate) fn pqx<'a>(alloc: Global) -> Result<Command<'a>, AllocError>
     ensures app { IfOk result (λ c. app_of c ≡ pqx_app) }
 {
-    let broker = broker(alloc)?;
-    let command = with_scripts(alloc)?.subcommand(broker)?;
-    let check = check(alloc)?;
-    command.subcommand(check)
+    with_commands(alloc, top(alloc), &[RUN, POINTS, ALONE, BROKER, CHECK])
 }
