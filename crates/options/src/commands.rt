@@ -2,8 +2,8 @@
 
 ghost use Rattle.std.specs.Prelude.{◌≡◌, IfOk, false};
 ghost use Rattle.clap.specs.Words.{app_of, new_app, rule_of};
-ghost use Rattle.options.specs.Commands.{HasNoGlobals, pqd_app, top_app};
-ghost use Rattle.options.specs.Described.{described_app, described_rule, with_apps, with_rules};
+ghost use Rattle.options.specs.Commands.{HasNoGlobals, pqd_app};
+ghost use Rattle.options.specs.Described.{described_app, described_rule, program_app, with_apps, with_rules};
 
 use crate::program::VERSION;
 use clap::{Arg, ArgAction, Command};
@@ -61,7 +61,7 @@ fn with_taken<'a>(
 
 /// What a command is.
 #[derive(Clone, Copy)]
-pub(crate) struct Subcommand<'a> {
+pub(crate) struct DescribedCommand<'a> {
     pub(crate) name: &'a str,
     pub(crate) about: &'a str,
     /// What help says below its options, if anything.
@@ -69,7 +69,7 @@ pub(crate) struct Subcommand<'a> {
     pub(crate) takes: &'a [Described<'a>],
 }
 
-impl<'a> Subcommand<'a> {
+impl<'a> DescribedCommand<'a> {
     /// As clap has it, before it takes anything.
     fn bare(&self, alloc: Global) -> Command<'a>
         ensures app { app_of result ≡ new_app self.now.name.now }
@@ -82,7 +82,15 @@ impl<'a> Subcommand<'a> {
         }
     }
 
-    /// As clap has it.
+    /// As clap has it, where it is a program: it wants a command, and tells its version.
+    pub(crate) fn program(&self, alloc: Global) -> Command<'a>
+        ensures app { app_of result ≡ program_app self.now.name.now }
+        ensures local { HasNoGlobals result }
+    {
+        self.bare(alloc).version(VERSION).subcommand_required(true)
+    }
+
+    /// As clap has it, with all that it takes.
     fn command(&self, alloc: Global) -> Result<Command<'a>, AllocError>
         ensures app { IfOk result (λ c. app_of c ≡ described_app self.now) }
         ensures local { IfOk result HasNoGlobals }
@@ -95,9 +103,9 @@ impl<'a> Subcommand<'a> {
 pub(crate) fn with_commands<'a>(
     alloc: Global,
     command: Command<'a>,
-    below: &[Subcommand<'a>],
+    below: &[DescribedCommand<'a>],
 ) -> Result<Command<'a>, AllocError>
-    ensures app { IfOk result (λ c. app_of c ≡ with_apps (app_of command.entry) below.entry.now) }
+    ensures { IfOk result (λ c. app_of c ≡ with_apps (app_of command.entry) below.entry.now) }
 {
     let mut command = command;
     for subcommand in below {
@@ -137,7 +145,7 @@ const SYNC: Described<'static> = Described {
 };
 
 /// `pipe [--clients T] [--records K] [--image FILE] [--journal FILE [--sync WHEN]] [--renew]`
-const PIPE: Subcommand<'static> = Subcommand {
+const PIPE: DescribedCommand<'static> = DescribedCommand {
     name: "pipe",
     about: "Answers the requests of standard input on standard output",
     notes: None,
@@ -156,7 +164,7 @@ const PIPE: Subcommand<'static> = Subcommand {
 };
 
 /// `serve [--clients T] [--records K] [--image FILE] [--journal FILE [--sync WHEN]] [--renew] [--port P] [--workers N]`
-const SERVE: Subcommand<'static> = Subcommand {
+const SERVE: DescribedCommand<'static> = DescribedCommand {
     name: "serve",
     about: "Answers the requests of connections to a port",
     notes: None,
@@ -184,23 +192,20 @@ const SERVE: Subcommand<'static> = Subcommand {
     ],
 };
 
-const COMMANDS: &[Subcommand<'static>] = &[PIPE, SERVE];
+static COMMANDS: [DescribedCommand<'static>; 2] = [PIPE, SERVE];
 
 /// `pqd` without its commands.
-fn top<'a>(alloc: Global) -> Command<'a>
-    ensures app { app_of result ≡ top_app }
-    ensures local { HasNoGlobals result }
-{
-    Command::new(alloc, "pqd")
-        .about("A broker of queues that outlive crashes")
-        .version(VERSION)
-        .subcommand_required(true)
-        .disable_help_subcommand(true)
-}
+const PQD: DescribedCommand<'static> = DescribedCommand {
+    name: "pqd",
+    about: "A broker of queues that outlive crashes",
+    notes: None,
+    takes: &[],
+};
 
 /// `pqd pipe`, `pqd serve`
 pub(crate) fn pqd<'a>(alloc: Global) -> Result<Command<'a>, AllocError>
     ensures app { IfOk result (λ c. app_of c ≡ pqd_app) }
 {
-    with_commands(alloc, top(alloc), COMMANDS)
+    let command = PQD.program(alloc).disable_help_subcommand(true);
+    with_commands(alloc, command, &COMMANDS)
 }

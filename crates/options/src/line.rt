@@ -1,9 +1,10 @@
 //! What the words of a command line ask.
 
-ghost use Rattle.std.specs.Prelude.{◌≡◌, ◌↔◌, IfOk, IfErr, IsTrue, OnErr, Some, codes, map};
-ghost use Rattle.clap.specs.Words.{first_value, found_of, kind_of, subcommand_rows_of};
+ghost use Rattle.std.specs.Prelude.{◌≡◌, ◌↔◌, ◌⊎◌, IfOk, IfErr, IsTrue, OnErr, Some, codes, map};
+ghost use Rattle.clap.specs.Words.{app_of, first_value, found_of, kind_of, subcommand_rows_of};
 ghost use Rattle.options.specs.Asked.{AllFit, Asks, IsAsked, IsKnown, ListeningFits, ListensBy, Refuses};
 ghost use Rattle.options.specs.Asked.{IsSyncing, JournalFits, JournalsBy, CommandAsks, CommandFits, SyncsBy, name_in};
+ghost use Rattle.options.specs.Commands.{pqd_app};
 ghost use Rattle.options.specs.Numbers.{given_text};
 
 use crate::asked::{Journaling, Listening, Mode, Options, Syncing};
@@ -111,6 +112,33 @@ fn explained(alloc: Global, command: &mut Command<'_>, misfit: Misfit) -> Result
     command.error(ErrorKind::ValueValidation, text.as_str())
 }
 
+/// That error, or the one that memory for it is wanting.
+fn refusal(alloc: Global, command: &mut Command<'_>, misfit: Misfit) -> Error
+    ensures { (kind_of result ≡ ErrorKind.OutOfMemory) ⊎ (kind_of result ≡ ErrorKind.ValueValidation) }
+{
+    match explained(alloc, command, misfit) {
+        Ok(error) => error,
+        Err(error) => error.into(),
+    }
+}
+
+/// What the words ask of the command, of which the first is the program's name.
+fn asked_of<'a, S: AsStr>(
+    alloc: Global,
+    command: &mut Command<'a>,
+    words: &'a [S],
+) -> Result<Options<'a>, Error>
+    requires app { app_of command.old ≡ pqd_app }
+    ensures asked { IfOk result (IsAsked (map S.text words.entry.now)) }
+    ensures refused { IfErr result (Refuses (map S.text words.entry.now)) }
+{
+    let matches = command.try_get_matches_from_mut(words)?;
+    match asked(&matches) {
+        Ok(options) => Ok(options),
+        Err(misfit) => Err(refusal(alloc, command, misfit)),
+    }
+}
+
 /// What the words of a command line ask, of which the first is the program's name.
 ///
 /// An error that is no want of memory has the text for the user and the status to end with: 0 where the words ask for
@@ -120,9 +148,5 @@ pub fn command_line<'a, S: AsStr>(alloc: Global, words: &'a [S]) -> Result<Optio
     ensures refused { IfErr result (Refuses (map S.text words.entry.now)) }
 {
     let mut command = pqd(alloc)?;
-    let matches = command.try_get_matches_from_mut(words)?;
-    match asked(&matches) {
-        Ok(options) => Ok(options),
-        Err(misfit) => Err(explained(alloc, &mut command, misfit)?),
-    }
+    asked_of(alloc, &mut command, words)
 }

@@ -2,11 +2,9 @@
 
 ghost use Rattle.std.specs.Prelude.{◌≡◌, IfOk};
 ghost use Rattle.clap.specs.Words.{app_of};
-ghost use Rattle.options.specs.Commands.{HasNoGlobals};
-ghost use Rattle.options.specs.PqxCommands.{pqx_app, top_app};
+ghost use Rattle.options.specs.PqxCommands.{pqx_app};
 
-use crate::commands::{Described, Form, Subcommand, with_commands};
-use crate::program::VERSION;
+use crate::commands::{Described, DescribedCommand, Form, with_commands};
 use clap::Command;
 use std::alloc::{AllocError, Global};
 
@@ -59,7 +57,7 @@ The status is 0 if one order explains every answer, 1 if none does, 2 if a line 
 docs/HISTORIES.md has the other lines, the verdicts, and how to record.";
 
 /// `run [--page FILE]`
-const RUN: Subcommand<'static> = Subcommand {
+const RUN: DescribedCommand<'static> = DescribedCommand {
     name: "run",
     about: "Follows the script that standard input has, and prints what happens",
     notes: Some(SCRIPTS),
@@ -71,7 +69,7 @@ const RUN: Subcommand<'static> = Subcommand {
 };
 
 /// `points [--evict none|all|drawn] [--draw N] [--from P] [--count N] [--page FILE]`
-const POINTS: Subcommand<'static> = Subcommand {
+const POINTS: DescribedCommand<'static> = DescribedCommand {
     name: "points",
     about: "Crashes at each point of the script that standard input has, and prints what each recovery finds",
     notes: Some(SCRIPTS),
@@ -105,7 +103,7 @@ const POINTS: Subcommand<'static> = Subcommand {
 };
 
 /// `alone`
-const ALONE: Subcommand<'static> = Subcommand {
+const ALONE: DescribedCommand<'static> = DescribedCommand {
     name: "alone",
     about: "At each point of the script, lets each call under way go on alone, and prints its answer",
     notes: Some(SCRIPTS),
@@ -113,7 +111,7 @@ const ALONE: Subcommand<'static> = Subcommand {
 };
 
 /// `broker run`, `broker points [--evict none|all|drawn] [--draw N]`
-const BROKER: Subcommand<'static> = Subcommand {
+const BROKER: DescribedCommand<'static> = DescribedCommand {
     name: "broker",
     about: "Follows the script of a whole broker that standard input has, or crashes the broker at each of its points",
     notes: Some(BROKERS),
@@ -137,7 +135,7 @@ const BROKER: Subcommand<'static> = Subcommand {
 };
 
 /// `check [--order] [--page FILE]`
-const CHECK: Subcommand<'static> = Subcommand {
+const CHECK: DescribedCommand<'static> = DescribedCommand {
     name: "check",
     about: "Finds an order that explains the recording that standard input has, or says why there is none",
     notes: Some(RECORDINGS),
@@ -155,21 +153,19 @@ const CHECK: Subcommand<'static> = Subcommand {
     ],
 };
 
+static COMMANDS: [DescribedCommand<'static>; 5] = [RUN, POINTS, ALONE, BROKER, CHECK];
+
 /// `pqx` without its commands.
-fn top<'a>(alloc: Global) -> Command<'a>
-    ensures app { app_of result ≡ top_app }
-    ensures local { HasNoGlobals result }
-{
-    Command::new(alloc, "pqx")
-        .about("Follows scripts of single steps on a queue")
-        .after_help(SCRIPTS)
-        .version(VERSION)
-        .subcommand_required(true)
-}
+const PQX: DescribedCommand<'static> = DescribedCommand {
+    name: "pqx",
+    about: "Follows scripts of single steps on a queue",
+    notes: Some(SCRIPTS),
+    takes: &[],
+};
 
 /// `pqx run`, `pqx points`, `pqx alone`, `pqx broker`, `pqx check`
 pub(crate) fn pqx<'a>(alloc: Global) -> Result<Command<'a>, AllocError>
     ensures app { IfOk result (λ c. app_of c ≡ pqx_app) }
 {
-    with_commands(alloc, top(alloc), &[RUN, POINTS, ALONE, BROKER, CHECK])
+    with_commands(alloc, PQX.program(alloc), &COMMANDS)
 }

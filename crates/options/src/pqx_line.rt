@@ -1,19 +1,20 @@
 //! What the words of a command line ask of `pqx`.
 
-ghost use Rattle.std.specs.Prelude.{◌≡◌, IfOk, IfErr, OnErr, Some, codes, map, option_map};
+ghost use Rattle.std.specs.Prelude.{◌≡◌, ◌⊎◌, IfOk, IfErr, OnErr, Some, codes, map, option_map};
 ghost use Rattle.std.specs.Result.{OkIff};
-ghost use Rattle.clap.specs.Words.{first_value, found_of, kind_of, subcommand_rows_of};
+ghost use Rattle.clap.specs.Words.{app_of, first_value, found_of, kind_of, subcommand_rows_of};
 ghost use Rattle.options.specs.declared.limits.TheConstants.{DEFAULT_DRAW, MAX_DRAW, MAX_POINT};
 ghost use Rattle.options.specs.Numbers.{Fits, IsNumberGiven, decimal_value, given_text};
 ghost use Rattle.options.specs.PqxAsked.{AllFit, AreTaken, Asks, AsksBrokerPoints, AsksCheck, AsksPoints, AsksRun};
 ghost use Rattle.options.specs.PqxAsked.{Chooses, IsChoice, IsPqxAsked, IsTask, CommandAsks, CommandFits, RefusesPqx};
+ghost use Rattle.options.specs.PqxCommands.{pqx_app};
 
 use crate::limits::DEFAULT_DRAW;
 use crate::pqx::{BrokerPointOptions, CheckOptions, Choice, PointOptions, PqxAsked, RunOptions};
 use crate::pqx_commands::pqx;
 use clap::error::ErrorKind;
 use clap::{ArgMatches, Command, Error};
-use std::alloc::{AllocError, Global};
+use std::alloc::Global;
 use std::convert::AsStr;
 
 /// An option was given what it does not take.
@@ -192,11 +193,27 @@ fn asked<'a>(matches: &ArgMatches<'a>) -> Result<PqxAsked<'a>, Misfit>
     }
 }
 
-/// The error that tells of an option that does not fit.
-fn explained(command: &mut Command<'_>, misfit: Misfit) -> Result<Error, AllocError>
-    ensures { IfOk result (λ e. kind_of e ≡ ErrorKind.ValueValidation) }
+/// The error that tells of an option that does not fit, or that memory for it is wanting.
+fn refusal(command: &mut Command<'_>, misfit: Misfit) -> Error
+    ensures { (kind_of result ≡ ErrorKind.OutOfMemory) ⊎ (kind_of result ≡ ErrorKind.ValueValidation) }
 {
-    command.error(ErrorKind::ValueValidation, text_of(misfit))
+    match command.error(ErrorKind::ValueValidation, text_of(misfit)) {
+        Ok(error) => error,
+        Err(error) => error.into(),
+    }
+}
+
+/// What the words ask of the command, of which the first is the program's name.
+fn asked_of<'a, S: AsStr>(command: &mut Command<'a>, words: &'a [S]) -> Result<PqxAsked<'a>, Error>
+    requires app { app_of command.old ≡ pqx_app }
+    ensures asked { IfOk result (IsPqxAsked (map S.text words.entry.now)) }
+    ensures refused { IfErr result (RefusesPqx (map S.text words.entry.now)) }
+{
+    let matches = command.try_get_matches_from_mut(words)?;
+    match asked(&matches) {
+        Ok(asked) => Ok(asked),
+        Err(misfit) => Err(refusal(command, misfit)),
+    }
 }
 
 /// What the words of a command line ask of `pqx`, of which the first is the program's name.
@@ -208,9 +225,5 @@ pub fn pqx_command_line<'a, S: AsStr>(alloc: Global, words: &'a [S]) -> Result<P
     ensures refused { IfErr result (RefusesPqx (map S.text words.entry.now)) }
 {
     let mut command = pqx(alloc)?;
-    let matches = command.try_get_matches_from_mut(words)?;
-    match asked(&matches) {
-        Ok(asked) => Ok(asked),
-        Err(misfit) => Err(explained(&mut command, misfit)?),
-    }
+    asked_of(&mut command, words)
 }
