@@ -1,6 +1,7 @@
 //! What the lines of a script say.
 
-ghost use Rattle.std.specs.Prelude.{◌≡◌, Ok};
+ghost use Rattle.std.specs.Prelude.{◌≡◌, ◌∷◌, ◌++◌, Ok, decimal};
+ghost use Rattle.std.specs.Fmt.{WritesOnOk};
 ghost use Rattle.grammar.specs.Grammar.{IsServedQueue, shape_by};
 
 use arena::Layout;
@@ -77,6 +78,25 @@ pub enum Command {
     Again,
 }
 
+/// Writes a word and the number after it.
+fn write_numbered<W: fmt::Write>(f: &mut fmt::Formatter<W>, word: &str, number: u64) -> fmt::Result
+    ensures { WritesOnOk W.write_str_gives f.old result (word.now ++ 32 ∷ decimal number) f.new }
+{
+    write!(f, "{word} {number}")
+}
+
+/// Writes a word and the two numbers after it.
+fn write_twice_numbered<W: fmt::Write>(
+    f: &mut fmt::Formatter<W>,
+    word: &str,
+    first: u64,
+    second: u64,
+) -> fmt::Result
+    ensures { WritesOnOk W.write_str_gives f.old result (word.now ++ 32 ∷ decimal first ++ 32 ∷ decimal second) f.new }
+{
+    write!(f, "{word} {first} {second}")
+}
+
 /// As a script spells it: `enq 0 05`.
 impl fmt::Display for Command {
     ghost use Rattle.std.specs.Prelude.{Some};
@@ -92,17 +112,21 @@ impl fmt::Display for Command {
                 number,
                 value,
             } => write!(f, "enq {} {number} {value}", client.0),
-            Command::Deq { client } => write!(f, "deq {}", client.0),
-            Command::NumberedDeq { client, number } => write!(f, "deq {} {number}", client.0),
-            Command::Step { client, most } => write!(f, "step {} {most}", client.0),
-            Command::End { client } => write!(f, "end {}", client.0),
-            Command::Evict { word } => write!(f, "evict {word}"),
-            Command::Crash => write!(f, "crash"),
-            Command::Recover => write!(f, "recover"),
-            Command::RecoverBy { most } => write!(f, "recover {most}"),
-            Command::Content => write!(f, "content"),
-            Command::Order => write!(f, "order"),
-            Command::Again => write!(f, "again"),
+            Command::Deq { client } => write_numbered(f, "deq", client.0 as u64),
+            Command::NumberedDeq { client, number } => {
+                write_twice_numbered(f, "deq", client.0 as u64, number)
+            }
+            Command::Step { client, most } => {
+                write_twice_numbered(f, "step", client.0 as u64, most as u64)
+            }
+            Command::End { client } => write_numbered(f, "end", client.0 as u64),
+            Command::Evict { word } => write_numbered(f, "evict", word),
+            Command::Crash => f.write_str("crash"),
+            Command::Recover => f.write_str("recover"),
+            Command::RecoverBy { most } => write_numbered(f, "recover", most as u64),
+            Command::Content => f.write_str("content"),
+            Command::Order => f.write_str("order"),
+            Command::Again => f.write_str("again"),
         }
     }
 }
