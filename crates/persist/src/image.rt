@@ -1,9 +1,10 @@
 //! Images of a memory: its kept words as bytes.
 
-ghost use Rattle.std.specs.Prelude.{◌≡◌, ◌^◌, ◌<◌, ◌≤◌, length, drop, map, All, Ok, Err, IfOk, IfErr, IfSome, IfNone};
-ghost use Rattle.std.specs.Int.{w64, from_le_bytes};
+ghost use Rattle.std.specs.Prelude.{◌≡◌, ◌^◌, ◌<◌, ◌≤◌, ◌++◌, length, drop, map, All, Ok, Err, IfOk, IfErr, IfSome, IfNone, OnOk};
+ghost use Rattle.std.specs.Int.{w64, from_le_bytes, to_le_bytes};
+ghost use Rattle.std.specs.List.{flat_map};
 ghost use Rattle.persist.specs.Memory.{words_at_rest, IsUnasked};
-ghost use Rattle.persist.specs.Image.{image_of, image_by, magic_v1, begins_with, has_first_form, count_in, reading, reading_by, reading_v1, IsWhyUnread};
+ghost use Rattle.persist.specs.Image.{image_of, image_by, magic, magic_v1, begins_with, has_first_form, count_in, reading, reading_by, reading_v1, IsWhyUnread};
 
 use crate::memory::{MAX_WORDS, Memory};
 use std::alloc::{AllocError, Global};
@@ -86,11 +87,28 @@ fn words_of<'a>(
 fn numbers(alloc: Global, words: &[[u8; NUMBER_BYTES]]) -> Result<Vec<u64>, AllocError>
     ensures { IfOk result (λ numbers. numbers.items ≡ map (from_le_bytes w64) words.now) }
 {
-    let mut numbers = Vec::with_capacity(alloc, words.len())?;
+    words
+        .iter()
+        .map(|word| u64::from_le_bytes(*word))
+        .collect(alloc)
+}
+
+/// Writes the magic and the count, after what is there.
+fn write_header(image: &mut Vec<u8>, count: usize) -> Result<(), AllocError>
+    ensures { OnOk result (image.new.items ≡ image.old.items ++ magic ++ to_le_bytes w64 count) }
+{
+    image.extend_from_slice(&MAGIC)?;
+    image.extend_from_slice(&(count as u64).to_le_bytes())
+}
+
+/// Writes each word, after what is there.
+fn write_words(image: &mut Vec<u8>, words: &[u64]) -> Result<(), AllocError>
+    ensures { OnOk result (image.new.items ≡ image.old.items ++ flat_map (to_le_bytes w64) words.now) }
+{
     for word in words {
-        numbers.push(u64::from_le_bytes(*word))?;
+        image.extend_from_slice(&word.to_le_bytes())?;
     }
-    Ok(numbers)
+    Ok(())
 }
 
 /// The image of these words.
@@ -100,11 +118,8 @@ fn image(alloc: Global, words: &[u64]) -> Result<Vec<u8>, AllocError>
     ensures fit { All (λ word. word < 2 ^ 64) words.now }
 {
     let mut image = Vec::with_capacity(alloc, HEADER_BYTES + NUMBER_BYTES * words.len())?;
-    image.extend_from_slice(&MAGIC)?;
-    image.extend_from_slice(&(words.len() as u64).to_le_bytes())?;
-    for word in words {
-        image.extend_from_slice(&word.to_le_bytes())?;
-    }
+    write_header(&mut image, words.len())?;
+    write_words(&mut image, words)?;
     Ok(image)
 }
 
