@@ -9,5 +9,6 @@ mod Sound
 mod Shown
 mod Images
 mod Requests
+mod Completing
 mod Noting
 pub mod Facts
