@@ -32,7 +32,7 @@ pub const MAX_BROKER_WORDS: usize = BLOCKS_FROM + SLOTS * MAX_LAYOUT_WORDS;
 pub struct SlotId(pub u8);
 
 /// A place of a broker's layout: one word, by what it is for.
-#[derive(Clone, Copy, Debug, PartialEq, Eq)]
+#[derive(Clone, Copy)]
 pub enum BrokerPlace {
     /// How many clients each queue has. It never changes.
     Clients,

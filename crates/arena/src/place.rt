@@ -6,7 +6,7 @@ ghost use Rattle.arena.specs.Words.{item_part, value_of};
 use words::{Client, NodeId, Token, Value};
 
 /// A part of an item: its length, or one of the three words of its bytes.
-#[derive(Clone, Copy, Debug, PartialEq, Eq)]
+#[derive(Clone, Copy)]
 pub enum Part {
     Length,
     First,
@@ -15,7 +15,7 @@ pub enum Part {
 }
 
 /// A place of a layout: one word, by what it is for. Some are those of one kind of queue alone.
-#[derive(Clone, Copy, Debug, PartialEq, Eq)]
+#[derive(Clone, Copy)]
 pub enum Place {
     /// The node before the first of the queue, or an earlier one.
     Head,
@@ -46,7 +46,7 @@ pub enum Place {
 }
 
 /// A value that is to be written at a place.
-#[derive(Clone, Copy, Debug, PartialEq, Eq)]
+#[derive(Clone, Copy)]
 pub struct Write {
     pub place: Place,
     pub value: u64,
