@@ -51,3 +51,7 @@ opened_in places directory same slot queue h free fresh =
     opened places slot queue h
     (subst (λ (d : Directory). IsFree d slot) (sym same) free)
     (subst (λ (d : Directory). HasName d queue.name → ⊥) (sym same) fresh)
+
+pub place_there : (places directory : Directory) → places ≡ directory → (slot : ℕ) → IsFree directory slot → slot < length places
+place_there places directory same slot free =
+    slice_get_within places slot None (subst (λ (d : Directory). IsFree d slot) (sym same) free)
