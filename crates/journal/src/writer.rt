@@ -1,6 +1,7 @@
 //! A journal's head, and its frames, as bytes.
 
 ghost use Rattle.std.specs.Prelude.{◌≡◌, ◌^◌, ◌≤◌, ◌++◌, ◌↔◌, ◌<◌, [], All, length, take, IsTrue, IfOk, IfErr, OnOk, OnErr};
+ghost use Rattle.std.specs.List.{flat_map};
 ghost use Rattle.journal.specs.Frame.{batch_of, change_bytes, frame_of, frame_sum, front_of};
 ghost use Rattle.journal.specs.Journal.{AreOfWords, head_front, head_of};
 
@@ -39,6 +40,20 @@ fn append_change(out: &mut Vec<u8>, change: &Change) -> Result<(), AllocError>
     out.extend_from_slice(&change.new.to_le_bytes())
 }
 
+/// Appends changes, one behind the other. Where memory is refused, a part of them may be appended.
+fn append_changes(out: &mut Vec<u8>, changes: &[Change]) -> Result<(), AllocError>
+    requires { AreOfWords (2 ^ 32) changes.now }
+    ensures ok { OnOk result (out.new.items ≡ out.old.items ++ flat_map change_bytes changes.now) }
+    // A fact of the argument's type, which a caller has from here alone.
+    ensures values { OnOk result (All (λ change. change.new < 2 ^ 64) changes.now) }
+    ensures begins { take (length out.old.items) out.new.items ≡ out.old.items }
+{
+    for change in changes {
+        append_change(out, change)?;
+    }
+    Ok(())
+}
+
 /// Appends a frame but for its sum. Where memory is refused, a part of it may be appended.
 fn append_front(
     out: &mut Vec<u8>,
@@ -50,17 +65,13 @@ fn append_front(
     requires within { AreOfWords (2 ^ 32) changes.now }
     ensures ok { OnOk result (out.new.items
         ≡ out.old.items ++ front_of before.now (batch_of kept changes.now)) }
-    // A fact of the argument's type, which a caller has from here alone.
     ensures values { OnOk result (All (λ change. change.new < 2 ^ 64) changes.now) }
     ensures begins { take (length out.old.items) out.new.items ≡ out.old.items }
 {
     out.extend_from_slice(before)?;
     out.extend_from_slice(&kept.to_le_bytes())?;
     out.extend_from_slice(&(changes.len() as u32).to_le_bytes())?;
-    for change in changes {
-        append_change(out, change)?;
-    }
-    Ok(())
+    append_changes(out, changes)
 }
 
 /// Appends a frame. It answers its sum. Where memory is refused, a part of it may be appended.

@@ -1,25 +1,44 @@
-use Rattle.std.proofs.Common.{◌^◌, ◌<◌, ◌++◌, length, take}
-use Rattle.std.specs.Int.{w32, w64, to_le_bytes}
+use Rattle.std.proofs.Common.{◌≡◌, ◌++◌}
 use Rattle.std.specs.List.{flat_map}
-use Rattle.std.proofs.lemmas.List.Elements.{All-more}
-use Rattle.journal.specs.Frame.{change_bytes}
-use Rattle.journal.proofs.Writes.{no_change, appended_more, begins_still}
+use Rattle.journal.specs.Frame.{batch_of, change_bytes, front_of}
+use Rattle.journal.proofs.Writes.{appended_behind, appended_thrice, begins_more, begins_on, begins_same}
 use Rattle.journal.proofs.writer.append_front.Goals as goal
 
-pub loop-change-preserved : goal.loop-change-preserved
-loop-change-preserved c =
-    let front = c.args.before.now ++ to_le_bytes w64 c.args.kept ++ to_le_bytes w32 (length c.args.changes.now) in
-    record {
-      bytes =
-          appended_more change_bytes c.args.out.now.items front c.args.changes.now c.loop-change.change-index no_change c.loop-change.out.items c.append_change.new.out.items
-          c.loop-change-test.true c.loop-change.invariant.bytes c.in_ok-append_change.ensures.ok;
-      values =
-          All-more (λ change. change.new < 2 ^ 64) c.args.changes.now c.loop-change.change-index no_change c.loop-change-test.true
-          c.loop-change.invariant.values c.in_ok-append_change.ensures.value;
-    }
+pub returns-in_err-extend_from_slice-clause-begins : goal.returns-in_err-extend_from_slice-clause-begins
+returns-in_err-extend_from_slice-clause-begins c = begins_same _ _ c.in_err-extend_from_slice.ensures.items
 
-pub returns-in_err-append_change-clause-begins : goal.returns-in_err-append_change-clause-begins
-returns-in_err-append_change-clause-begins c =
-    let front = c.args.before.now ++ to_le_bytes w64 c.args.kept ++ to_le_bytes w32 (length c.args.changes.now) in
-    begins_still c.args.out.now.items (front ++ flat_map change_bytes (take c.loop-change.change-index c.args.changes.now)) c.loop-change.out.items c.append_change.new.out.items
-    c.loop-change.invariant.bytes c.append_change.ensures.begins
+pub returns-in_err-extend_from_slice-2-clause-begins : goal.returns-in_err-extend_from_slice-2-clause-begins
+returns-in_err-extend_from_slice-2-clause-begins c =
+    begins_on _ c.extend_from_slice.new.self.items _
+    (begins_more _ c.args.before.now _ c.in_ok-extend_from_slice.ensures.items)
+    (begins_same _ _ c.in_err-extend_from_slice-2.ensures.items)
+
+pub returns-in_err-extend_from_slice-3-clause-begins : goal.returns-in_err-extend_from_slice-3-clause-begins
+returns-in_err-extend_from_slice-3-clause-begins c =
+    begins_on _ c.extend_from_slice-2.new.self.items _
+    (begins_on _ c.extend_from_slice.new.self.items _
+    (begins_more _ c.args.before.now _ c.in_ok-extend_from_slice.ensures.items)
+    (begins_more _ c.to_le_bytes.result _ c.in_ok-extend_from_slice-2.ensures.items))
+    (begins_same _ _ c.in_err-extend_from_slice-3.ensures.items)
+
+pub returns-clause-ok : goal.returns-clause-ok
+returns-clause-ok c =
+    let part = c.args.before.now ++ c.to_le_bytes.result ++ c.to_le_bytes-2.result in
+    let changes = flat_map change_bytes c.args.changes.now in
+    let parts : part ++ changes ≡ front_of c.args.before.now (batch_of c.args.kept c.args.changes.now) =
+    rw (c.to_le_bytes.ensures, c.to_le_bytes-2.ensures) in
+    appended_behind c.append_changes.result _ part changes _ _ _ parts
+    (appended_thrice _ c.args.before.now c.to_le_bytes.result c.to_le_bytes-2.result _ _ _
+    c.in_ok-extend_from_slice.ensures.items c.in_ok-extend_from_slice-2.ensures.items
+    c.in_ok-extend_from_slice-3.ensures.items) c.append_changes.ensures.ok
+
+pub returns-clause-values : goal.returns-clause-values
+returns-clause-values c = c.append_changes.ensures.values
+
+pub returns-clause-begins : goal.returns-clause-begins
+returns-clause-begins c =
+    begins_on _ c.extend_from_slice-3.new.self.items _ (begins_on _ c.extend_from_slice-2.new.self.items _
+    (begins_on _ c.extend_from_slice.new.self.items _
+    (begins_more _ c.args.before.now _ c.in_ok-extend_from_slice.ensures.items)
+    (begins_more _ c.to_le_bytes.result _ c.in_ok-extend_from_slice-2.ensures.items))
+    (begins_more _ c.to_le_bytes-2.result _ c.in_ok-extend_from_slice-3.ensures.items)) c.append_changes.ensures.begins
