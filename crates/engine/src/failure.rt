@@ -33,9 +33,9 @@ impl From<Unsent> for Failure {
 impl fmt::Display for Failure {
     fn fmt<W: fmt::Write>(&self, f: &mut fmt::Formatter<W>) -> fmt::Result {
         match self {
-            Failure::ReadFailed => write!(f, "{}", Refusal::ReadFailed),
-            Failure::WriteFailed => write!(f, "{}", Refusal::WriteFailed),
-            Failure::NotKept => write!(f, "31 NotKept"),
+            Failure::ReadFailed => Refusal::ReadFailed.fmt(f),
+            Failure::WriteFailed => Refusal::WriteFailed.fmt(f),
+            Failure::NotKept => f.write_str("31 NotKept"),
         }
     }
 }

@@ -19,7 +19,7 @@ use wire::Answer;
 pub type Output = ArrayVec<u8, OUTPUT_BYTES>;
 
 /// Why replies were not sent.
-#[derive(Clone, Copy, Debug, PartialEq, Eq)]
+#[derive(Clone, Copy)]
 pub enum Unsent {
     /// What was served could not be settled, so nothing was written.
     NotKept,

@@ -12,7 +12,7 @@ use wire::{Answer, Request};
 use words::Refusal;
 
 /// What a line is replied.
-#[derive(Clone, Copy, Debug, PartialEq, Eq)]
+#[derive(Clone, Copy)]
 pub enum Reply {
     /// The line is this request, which was made and answered.
     Made(Request, Answer),
