@@ -1,11 +1,19 @@
-use Rattle.std.proofs.Common.{◌≡◌, ◌≤◌, ◌<◌, ◌++◌, ◌∷◌, ◌+◌, ℕ, [], List, length, sym, ap, subst, ◌∙◌, arith, vec_capacity, Vec, Global}
+use Rattle.std.proofs.Common.{◌≡◌, ◌≤◌, ◌<◌, ◌++◌, ◌∷◌, ◌+◌, ℕ, [], List, Result, Ok, Err, is_ok, true, if◌then◌else◌, length, take, sym, ap, subst, ◌∙◌, arith, rules, vec_capacity, vec_len, Vec, Global}
+use Rattle.std.proofs.lemmas.Bool.{false≢true}
+use Rattle.std.specs.Prelude.{is_err}
 use Rattle.std.proofs.lemmas.Grind.{common_steps}
 use Rattle.persist.specs.declared.access.Change.{Change}
 use Rattle.persist.proofs.Facts.{partly}
 use Rattle.notes.specs.Noting.{HasNoted}
-use Rattle.notes.proofs.Mixing.{noted_first, noted_next, noted_same}
+use Rattle.notes.proofs.Mixing.{noted_first, noted_front, noted_last, noted_next, noted_same}
 use Rattle.notes.proofs.differences.add_differences.Goals as goal
 use Rattle.notes.proofs.differences.add_differences.Goals.{then-was-is+else-is_err, else-was-is}
+
+-- what is not pushed changes nothing
+refused_push : {T E : Type 0} (old new more : List Change) (done : Result T E) → is_err done ≡ true
+    → new ≡ (if is_ok done then old ++ more else old) → new ≡ old
+refused_push old new more (Ok _) err e = absurd (false≢true err)
+refused_push old new more (Err _) err e = e
 
 pub loop-at-init : goal.loop-at-init
 loop-at-init g c = record {
@@ -47,3 +55,22 @@ loop-at-preserved g c =
         capacity = most c.loop-at.changes (omega arith) w.changes-is;
       }
     ]
+
+pub returns-then-is_err-clause-noted : goal.returns-then-is_err-clause-noted
+returns-then-is_err-clause-noted g c = λ all. absurd (false≢true all)
+
+pub returns-then-is_err-clause-before : goal.returns-then-is_err-clause-before
+returns-then-is_err-clause-before g c =
+    let same : c.push.new.self.items ≡ c.loop-at.changes.items =
+    refused_push c.loop-at.changes.items _ _ c.push.result (sym c.is_err.ensures.value ∙ c.if-is_err.true) c.push.ensures.items in
+    ap (take (vec_len c.args.changes.now)) same
+    ∙ noted_front _ _ _ _ _ (search rules) c.loop-at.invariant.noted
+
+pub returns-clause-noted : goal.returns-clause-noted
+returns-clause-noted g c = λ _.
+    noted_last c.args.changes.now.items c.loop-at.changes.items c.args.from c.loop-at.at
+    (g.W.KeptWords.kept_words c.args.words.now) c.args.memory.now.words.kept
+    (omega (arith, c.loop-at-test.false, c.loop-at.auto.at-end, c.size-at-end.ensures)) c.loop-at.invariant.noted
+
+pub returns-clause-before : goal.returns-clause-before
+returns-clause-before g c = noted_front _ _ _ _ _ (search rules) c.loop-at.invariant.noted
