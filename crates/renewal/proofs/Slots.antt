@@ -1,6 +1,6 @@
 -- What a slot has, by the directory, and its words in fresh records.
-use Rattle.std.proofs.Common.{◌≡◌, ◌<◌, ℕ, List, Option, Some, None, slice_get, sym, ap, subst, ◌∙◌, length, slice_index_or, arith}
-use Rattle.std.specs.Prelude.{IfSome}
+use Rattle.std.proofs.Common.{◌≡◌, ◌<◌, ℕ, List, Option, Some, None, Result, Ok, Err, slice_get, sym, ap, subst, ◌∙◌, length, slice_index_or, arith}
+use Rattle.std.specs.Prelude.{IfOk, IfSome, OnOk}
 use Rattle.persist.specs.Memory.{Words}
 use Rattle.arena.specs.Broker.{block_in}
 use Rattle.arena.specs.Form.{running}
@@ -13,7 +13,7 @@ use Rattle.directory.specs.Sound.{counts_in}
 use Rattle.directory.specs.declared.queue.Queue.{Queue}
 use Rattle.directory.proofs.Facts.{directory_at}
 use Rattle.migration.proofs.Facts.{listed}
-use Rattle.renewal.specs.Words.{block_renewed, renewal_of}
+use Rattle.renewal.specs.Words.{ItemsFit, block_renewed, renewal_of}
 use Rattle.renewal.specs.Broker.{BlockFits, MayBeRenewedTo, SlotFits, slot_block_renewed, slot_renewed}
 
 pub same_queue : (x y : Option Queue) → ◌≡◌ {A = Option (Option Queue)} (Some x) (Some y) → x ≡ y
@@ -60,3 +60,21 @@ renewed_as o q to c old new block ws o_is old_is new_is block_is =
     ∙ ap (λ (s : Shape). block_renewed (renewal_of (shape_of q.kind to) s (kept_in s block))) old_is
     ∙ ap (λ (xs : List ℕ). block_renewed (renewal_of (shape_of q.kind to) (shape_of q.kind c) (kept_in (shape_of q.kind c) xs))) block_is
     ∙ sym (ap (λ (x : Option Queue). slot_renewed to c x ws) o_is)
+
+-- and whether its items fit
+pub fits_as : (o : Option Queue) (q : Queue) (to c : Counts) (old new : Shape) (block ws : List ℕ) → o ≡ Some q → old ≡ shape_of q.kind c
+    → new ≡ shape_of q.kind to → block ≡ ws → ItemsFit new old block ≡ SlotFits to c o ws
+fits_as o q to c old new block ws o_is old_is new_is block_is =
+    ap (λ (s : Shape). ItemsFit s old block) new_is
+    ∙ ap (λ (s : Shape). ItemsFit (shape_of q.kind to) s block) old_is
+    ∙ ap (λ (xs : List ℕ). ItemsFit (shape_of q.kind to) (shape_of q.kind c) xs) block_is
+    ∙ sym (ap (λ (x : Option Queue). SlotFits to c x ws) o_is)
+
+-- what is known of a result tells something else of it
+pub if_ok : {A E : Type 0} (P Q : A → Type 0) (r : Result A E) → ((x : A) → P x → Q x) → IfOk r P → IfOk r Q
+if_ok P Q (Ok x) f p = f x p
+if_ok P Q (Err _) f p = tt
+
+pub on_ok : {A E P Q : Type 0} (r : Result A E) → (P → Q) → OnOk r P → OnOk r Q
+on_ok (Ok _) f p = f p
+on_ok (Err _) f p = tt

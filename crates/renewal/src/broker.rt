@@ -71,8 +71,7 @@ pub(crate) fn slot_words(
         unreachable!();
     };
     let (old, new) = (layout.queue(queue.kind), to.queue(queue.kind));
-    let words = renewed_block(alloc, &old, &block, &new)?;
-    Ok(words)
+    renewed_block(alloc, &old, &block, &new)
 }
 
 /// Whether the items of a slot's queue, if it has one, fit.

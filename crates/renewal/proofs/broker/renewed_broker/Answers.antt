@@ -1,4 +1,5 @@
-use Rattle.std.proofs.Common.{◌≡◌, ◌++◌, ℕ, Err, List, [], sym, ap, subst, ◌∙◌}
+use Rattle.std.proofs.Common.{◌≡◌, ◌++◌, ℕ, Err, List, [], refl, sym, ap, subst, ◌∙◌}
+use Rattle.std.proofs.lemmas.Bool.{false≢true}
 use Rattle.std.specs.List.{flat_map, range_with_len}
 use Rattle.words.specs.declared.refusal.Refusal.{Refusal}
 use Rattle.words.specs.declared.refusal.Refusal.TheVariants.{NoRoom}
@@ -28,6 +29,13 @@ returns-clause-same c =
     c.in-Ok.ensures.items c.in-Ok-add_front.ensures.words c.in_ok-add_blocks.ensures.words))
     (broker_same c.args.memory.now.words c.args.kept.now.layout c.args.to.now c.args.kept.now.directory c.requires c.add_front.ensures.counts
     c.in_ok-add_blocks.ensures.room)
+
+pub returns-then-not-do_all_fit-clause-no_room : goal.returns-then-not-do_all_fit-clause-no_room
+returns-then-not-do_all_fit-clause-no_room c =
+    (λ e all. false≢true (sym c.if-not-do_all_fit.true ∙ c.do_all_fit.ensures.1 all), λ no. refl)
+
+pub returns-in_default-clause-no_room : goal.returns-in_default-clause-no_room
+returns-in_default-clause-no_room c = (λ e all. cc, λ no. absurd (no (c.do_all_fit.ensures.0 c.if-not-do_all_fit.false)))
 
 pub returns-in_default-add_front-clause-no_room : goal.returns-in_default-add_front-clause-no_room
 returns-in_default-add_front-clause-no_room c = (λ e all. cc, λ no. absurd (no (c.do_all_fit.ensures.0 c.if-not-do_all_fit.false)))
