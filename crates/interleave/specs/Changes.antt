@@ -10,7 +10,7 @@ use Rattle.stepper.specs.declared.resume.Stepped.{Stepped}
 use Rattle.helping.specs.Looks.{is_look}
 use Rattle.helping.specs.declared.op.Op.{Op}
 use Rattle.events.specs.declared.event.Effect.{Effect}
-use Rattle.protocol.specs.Machine.{World, effects_on_count, effects_on_keep}
+use Rattle.protocol.specs.Machine.{World, effects_on_count, effects_on_keep, effects_on_take}
 use Rattle.protocol.specs.declared.UnderWay.{UnderWay}
 use Rattle.interleave.specs.Calls.{went_on_to_nothing}
 use Rattle.interleave.specs.Core.{CoreState, call_with_record, machine_over}
@@ -36,8 +36,12 @@ effects_on_step w None change after = effects_on_change w change
 effects_on_step w (Some place) change after =
     effects_with_look place (went_on_to_nothing after) (length w.log.events) w.log.effects
 
--- the effects of a core over words: once the call with this record counts, once the place's word is kept with this
--- value, once a kept word changed so, and after a step that did so
+-- the effects of a core over words: once the call with this record takes effect with this reply, once it counts, once
+-- the place's word is kept with this value, once a kept word changed so, and after a step that did so
+abbrev pub effects_by_take : CoreState → ℕ → Reply → List Effect
+effects_by_take c number reply =
+    effects_on_take reply (length c.trace.log.events) (call_with_record c number) c.trace.log.effects
+
 abbrev pub effects_by_count : CoreState → ℕ → List Effect
 effects_by_count c number = effects_on_count (call_with_record c number) c.trace.log.effects
 

@@ -7,7 +7,7 @@ ghost use Rattle.arena.specs.Place.{IsNode, IsPlace};
 ghost use Rattle.arena.specs.Words.{values};
 ghost use Rattle.interleave.specs.Core.{call_with_record, core_with_effects};
 ghost use Rattle.interleave.specs.Effects.{AreInSequence};
-ghost use Rattle.interleave.specs.Changes.{effects_by_change, effects_by_count, effects_by_keep};
+ghost use Rattle.interleave.specs.Changes.{effects_by_change, effects_by_count, effects_by_keep, effects_by_take};
 ghost use Rattle.interleave.specs.Ranges.{WordsFit};
 ghost use Rattle.interleave.specs.Trace.{HaveRoom};
 ghost use Rattle.interleave.specs.Values.{value_of_place};
@@ -51,6 +51,17 @@ impl Core {
         self.calls.under_way(owner as usize)
     }
 
+    /// The call with this record, if it is under way, takes effect with this reply.
+    fn take_call(&mut self, number: u64, reply: Reply)
+        requires room { HaveRoom self.old.trace.log (effects_by_take self.old number reply) }
+        ensures { self.new ≡ core_with_effects self.old (effects_by_take self.old number reply) }
+    {
+        if let Some(under_way) = self.call_with(number) {
+            let place = under_way.place;
+            self.trace.take(place, reply);
+        }
+    }
+
     /// What the call with this record found counts.
     fn settle_call(&mut self, number: u64)
         requires sequence { AreInSequence self.old.trace.log.effects }
@@ -72,18 +83,10 @@ impl Core {
         ensures { self.new ≡ core_with_effects self.old (effects_by_keep self.old (M.words memory.now) place new) }
     {
         match place {
-            Place::Next(_) => {
-                if let Some(under_way) = self.call_with(new) {
-                    let place = under_way.place;
-                    self.trace.take(place, Reply::Done);
-                }
-            }
+            Place::Next(_) => self.take_call(new, Reply::Done),
             Place::Mark(node) => {
-                if let Some(under_way) = self.call_with(new) {
-                    let place = under_way.place;
-                    let value = kept_value(&self.layout, memory, node);
-                    self.trace.take(place, Reply::Got(value));
-                }
+                let value = kept_value(&self.layout, memory, node);
+                self.take_call(new, Reply::Got(value));
             }
             Place::Cell(token) => {
                 if new == EMPTY_CELL {
