@@ -55,23 +55,30 @@ struct Lines {
 }
 
 impl Lines {
-    fn take(&mut self, said: Line, number: u32) -> Result<(), Fault> {
+    /// Why a line may not stand here, if it may not.
+    fn misplaced(&self, said: &Line) -> Option<Why> {
         if self.left.is_some() {
-            return Err(Fault::Line(number, Why::AfterFinal));
+            return Some(Why::AfterFinal);
+        }
+        let mixes = if has_times(said) {
+            self.is_plain
+        } else {
+            !is_final(said) && !self.clock.is_empty()
+        };
+        if mixes { Some(Why::TimesAndNone) } else { None }
+    }
+
+    fn take(&mut self, said: Line, number: u32) -> Result<(), Fault> {
+        if let Some(why) = self.misplaced(&said) {
+            return Err(Fault::Line(number, why));
         }
         if has_times(&said) {
-            if self.is_plain {
-                return Err(Fault::Line(number, Why::TimesAndNone));
-            }
             return self.clock.take(&mut self.reader, said, number);
         }
         if is_final(&said) {
             self.left = Some(said);
             self.left_at = number;
             return Ok(());
-        }
-        if !self.clock.is_empty() {
-            return Err(Fault::Line(number, Why::TimesAndNone));
         }
         self.is_plain = self.is_plain || !is_base(&said);
         self.reader.take(
@@ -81,6 +88,24 @@ impl Lines {
                 time: 0,
             },
         )
+    }
+
+    /// A line of this text. An empty one says nothing.
+    fn add(&mut self, alloc: Global, text: &[u8], number: u32) -> Result<(), Fault> {
+        if text.is_empty() {
+            return Ok(());
+        }
+        let said = said(alloc, text, number)?;
+        self.take(said, number)
+    }
+
+    fn add_all(&mut self, alloc: Global, bytes: &[u8]) -> Result<(), Fault> {
+        let mut number = 0u32;
+        for text in bytes.split(|byte| *byte == b'\n') {
+            number = number.saturating_add(1);
+            self.add(alloc, text, number)?;
+        }
+        Ok(())
     }
 
     fn recording(self) -> Result<Recording, Fault> {
@@ -114,22 +139,6 @@ pub fn read(alloc: Global, bytes: &[u8]) -> Result<Recording, Fault> {
         left: None,
         left_at: 0,
     };
-    let mut number = 0u32;
-    let mut from = 0usize;
-    for (place, byte) in bytes.iter().enumerate() {
-        if *byte == b'\n' {
-            number = number.saturating_add(1);
-            let text = bytes.get(from..place).unwrap_or(&[]);
-            from = place.saturating_add(1);
-            if !text.is_empty() {
-                lines.take(said(alloc, text, number)?, number)?;
-            }
-        }
-    }
-    let text = bytes.get(from..).unwrap_or(&[]);
-    if !text.is_empty() {
-        number = number.saturating_add(1);
-        lines.take(said(alloc, text, number)?, number)?;
-    }
+    lines.add_all(alloc, bytes)?;
     lines.recording()
 }
