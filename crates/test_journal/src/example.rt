@@ -2,6 +2,7 @@
 
 use journal::{Fault, KEY_BYTES, Writer, hides_kept_frame, read};
 use persist::Change;
+use std::alloc::Global;
 use std::test::Fail;
 use words::Refusal;
 
@@ -30,47 +31,59 @@ fn change(word: usize, old: u64, new: u64) -> Change {
     Change { word, old, new }
 }
 
+/// Adds the two frames, and says whether the head and the first one end where they are to.
+fn add_frames(bytes: &mut Vec<u8>, writer: &mut Writer) -> Result<bool, Refusal> {
+    let head = bytes.len() == HEAD_END;
+    writer.frame(bytes, HEAD_END as u64, &[change(1, 0, 7)])?;
+    let first = bytes.len() == FIRST_END;
+    writer.frame(bytes, FIRST_END as u64, &[change(0, 5, 6), change(1, 7, 0)])?;
+    Ok(head && first)
+}
+
 #[test]
 fn a_writer_writes_it(rt: HostRuntime) -> Result<(), Fail> {
     let (mut bytes, mut writer) = Writer::begin(rt.alloc(), &KEY, &[5, 0])?;
-    assert_eq!(rt; bytes.len(), HEAD_END);
-    writer.frame(&mut bytes, HEAD_END as u64, &[change(1, 0, 7)])?;
-    assert_eq!(rt; bytes.len(), FIRST_END);
-    writer.frame(
-        &mut bytes,
-        FIRST_END as u64,
-        &[change(0, 5, 6), change(1, 7, 0)],
-    )?;
+    let are_right = add_frames(&mut bytes, &mut writer);
+    assert_eq!(rt; are_right, Ok(true));
     assert_eq!(rt; bytes.as_slice(), JOURNAL.as_slice());
     Ok(())
+}
+
+/// Adds the first frame after two that are refused, and says whether they were.
+fn add_after_refused(bytes: &mut Vec<u8>, writer: &mut Writer) -> Result<bool, Refusal> {
+    let empty = writer.frame(bytes, 0, &[]);
+    let past = writer.frame(bytes, 0, &[change(1, 0, 7), change(2, 0, 1)]);
+    let is_left = bytes.len() == HEAD_END;
+    writer.frame(bytes, HEAD_END as u64, &[change(1, 0, 7)])?;
+    Ok(empty == Err(Refusal::BadCount) && past == Err(Refusal::NoWord) && is_left)
 }
 
 #[test]
 fn a_refused_frame_leaves_the_bytes(rt: HostRuntime) -> Result<(), Fail> {
     assert!(rt; matches!(Writer::begin(rt.alloc(), &KEY, &[]), Err(Refusal::BadCount)));
     let (mut bytes, mut writer) = Writer::begin(rt.alloc(), &KEY, &[5, 0])?;
-    assert_eq!(rt; writer.frame(&mut bytes, 0, &[]), Err(Refusal::BadCount));
-    assert_eq!(rt;
-        writer.frame(&mut bytes, 0, &[change(1, 0, 7), change(2, 0, 1)]),
-        Err(Refusal::NoWord)
-    );
-    assert_eq!(rt; bytes.len(), HEAD_END);
-    writer.frame(&mut bytes, HEAD_END as u64, &[change(1, 0, 7)])?;
+    let are_refused = add_after_refused(&mut bytes, &mut writer);
+    assert_eq!(rt; are_refused, Ok(true));
     assert_eq!(rt; bytes.as_slice(), &JOURNAL[..FIRST_END]);
     Ok(())
 }
 
+/// Whether these bytes are read as a journal that ends on these words, with so many bytes cut off.
+fn is_read_as(alloc: Global, bytes: &[u8], words: &[u64], cut: usize) -> Result<bool, Fault> {
+    let reading = read(alloc, bytes)?;
+    Ok(reading.key == KEY && reading.words.as_slice() == words && reading.cut == cut)
+}
+
 #[test]
 fn it_is_read(rt: HostRuntime) -> Result<(), Fail> {
-    let reading = read(rt.alloc(), &JOURNAL)?;
-    assert_eq!(rt; reading.key, KEY);
-    assert_eq!(rt; reading.words.as_slice(), [6, 0].as_slice());
-    assert_eq!(rt; reading.cut, 0);
-    let reading = read(rt.alloc(), &JOURNAL[..FIRST_END + 1])?;
-    assert_eq!(rt; reading.words.as_slice(), [5, 7].as_slice());
-    assert_eq!(rt; reading.cut, 1);
-    let reading = read(rt.alloc(), &JOURNAL[..HEAD_END])?;
-    assert_eq!(rt; reading.words.as_slice(), [5, 0].as_slice());
+    for (bytes, words, cut) in [
+        (JOURNAL.as_slice(), [6, 0], 0),
+        (&JOURNAL[..FIRST_END + 1], [5, 7], 1),
+        (&JOURNAL[..HEAD_END], [5, 0], 0),
+    ] {
+        let is_read = is_read_as(rt.alloc(), bytes, &words, cut)?;
+        assert!(rt; is_read, "{words:?}");
+    }
     Ok(())
 }
 
@@ -93,19 +106,25 @@ fn a_damaged_head_is_refused(rt: HostRuntime) -> Result<(), Fail> {
     Ok(())
 }
 
+/// Whether these bytes are read up to there, and what is cut off hides a kept frame or does not.
+fn is_cut_at(alloc: Global, bytes: &[u8], end: usize, hides: bool) -> Result<bool, Fault> {
+    let reading = read(alloc, bytes)?;
+    let is_cut = reading.cut == bytes.len().saturating_sub(end);
+    Ok(is_cut && hides_kept_frame(&KEY, bytes, end) == hides)
+}
+
 #[test]
 fn damage_before_a_kept_frame_is_no_torn_tail(rt: HostRuntime) -> Result<(), Fail> {
     // The first frame was kept when the second was written; the second may be torn.
-    for (at, end, hidden) in [
+    for (at, end, hides) in [
         (60, HEAD_END, true),
         (87, HEAD_END, true),
         (100, FIRST_END, false),
     ] {
         let mut bytes = JOURNAL;
         bytes[at % 140] ^= 1;
-        let reading = read(rt.alloc(), &bytes)?;
-        assert_eq!(rt; reading.cut, 140 - end);
-        assert_eq!(rt; hides_kept_frame(&KEY, &bytes, end), hidden);
+        let is_cut = is_cut_at(rt.alloc(), &bytes, end, hides)?;
+        assert!(rt; is_cut, "{at}");
     }
     Ok(())
 }

@@ -53,34 +53,51 @@ fn base_words(alloc: Global, rng: &mut Pcg32) -> Result<Vec<u64>, Fail> {
     Ok(words)
 }
 
+impl Story {
+    /// What the journal is by now is a moment.
+    fn add_moment(&mut self, alloc: Global, kept: usize, words: &[u64]) -> Result<(), Fail> {
+        let words = Vec::from_slice(alloc, words)?;
+        self.moments.push(Moment {
+            end: self.bytes.len(),
+            kept,
+            words,
+        })?;
+        Ok(())
+    }
+}
+
+/// Adds up to four batches, some of which are kept at once.
+fn draw_batches(
+    alloc: Global,
+    rng: &mut Pcg32,
+    words: &mut Vec<u64>,
+    writer: &mut Writer,
+    story: &mut Story,
+) -> Result<(), Fail> {
+    let mut kept = story.bytes.len();
+    story.add_moment(alloc, kept, words.as_slice())?;
+    for _ in 0..rng.next_u32() % 5 {
+        let batch = make_batch(alloc, rng, words)?;
+        writer.frame(&mut story.bytes, kept as u64, &batch)?;
+        if rng.next_u32() % 2 == 0 {
+            kept = story.bytes.len();
+        }
+        story.add_moment(alloc, kept, words.as_slice())?;
+    }
+    Ok(())
+}
+
 /// The journal of this seed: up to five words, and up to four batches, some of which were kept at once.
 pub fn draw(alloc: Global, seed: u64) -> Result<Story, Fail> {
     let mut rng = Pcg32::new(seed, 0);
     let key = rng.next_u64().to_le_bytes();
     let mut words = base_words(alloc, &mut rng)?;
-    let (mut bytes, mut writer) = Writer::begin(alloc, &key, &words)?;
-    let mut kept = bytes.len();
-    let mut moments = Vec::new(alloc);
-    for _ in 0..rng.next_u32() % 5 {
-        moments.push(Moment {
-            end: bytes.len(),
-            kept,
-            words: words.clone()?,
-        })?;
-        let batch = make_batch(alloc, &mut rng, &mut words)?;
-        writer.frame(&mut bytes, kept as u64, &batch)?;
-        if rng.next_u32() % 2 == 0 {
-            kept = bytes.len();
-        }
-    }
-    moments.push(Moment {
-        end: bytes.len(),
-        kept,
-        words,
-    })?;
-    Ok(Story {
+    let (bytes, mut writer) = Writer::begin(alloc, &key, &words)?;
+    let mut story = Story {
         key,
         bytes,
-        moments,
-    })
+        moments: Vec::new(alloc),
+    };
+    draw_batches(alloc, &mut rng, &mut words, &mut writer, &mut story)?;
+    Ok(story)
 }
