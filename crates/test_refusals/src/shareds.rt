@@ -3,6 +3,7 @@
 
 ghost use Rattle.std.specs.Prelude.{◌≡◌, IfOk};
 ghost use Rattle.workers.specs.Opening.{IsNameOf};
+ghost use Rattle.workers.specs.Seats.{AreAllInOrder};
 
 use crate::acts::Act;
 use crate::again::{MOST_TRIES, play, say_again, seen};
@@ -14,9 +15,9 @@ use directory::Name;
 use session::Session;
 use std::marker::Brand;
 use std::sync::{Mutex, Wait};
-use test_support::item;
+use test_support::Wish;
 use test_support::steps::LOG_CLAIM_KEPT;
-use words::{Call, Client, Kind, Refusal};
+use words::{Client, Kind, Refusal};
 use workers::{Gate, Naming, OpenGate, Opened, Operator, Request, Seat, Shared};
 
 /// The queues before the session is shared.
@@ -27,23 +28,51 @@ static QUEUES: [(u32, Act); 4] = [
     (12, Act::CreateStep),
 ];
 
-/// A call of the log queue.
-fn numbered(number: u64, call: Call) -> Result<Request, Refusal> {
-    let name = Name::make(LOG)?;
-    Ok(Request {
-        name,
-        number: Some(number),
-        call,
-    })
+/// A part of the story.
+#[derive(Clone, Copy)]
+enum Part {
+    /// The client's call of the log queue with this number, or of the durable one without.
+    Call(Option<u64>, Wish),
+    /// The same, but everything stops in its middle, once it has made so many steps.
+    CutOff(Option<u64>, Wish, u32),
+    Crash,
+    Recover,
+    /// A third queue is created.
+    Create,
+    /// The histories end.
+    Rotate,
+    /// What the seat remembers is printed.
+    List,
 }
 
-/// A call of the durable queue.
-fn plain(call: Call) -> Result<Request, Refusal> {
-    let name = Name::make(DURABLE)?;
+/// The story.
+static PARTS: [Part; 17] = [
+    Part::Call(Some(1), Wish::Enq(7)),
+    Part::Call(Some(2), Wish::Enq(8)),
+    Part::Call(None, Wish::Enq(5)),
+    Part::Crash,
+    Part::Recover,
+    Part::CutOff(Some(3), Wish::Deq, LOG_CLAIM_KEPT),
+    Part::Recover,
+    Part::Call(Some(3), Wish::Deq),
+    Part::Call(Some(4), Wish::Enq(9)),
+    Part::CutOff(None, Wish::Deq, 7),
+    Part::Recover,
+    Part::Call(None, Wish::Deq),
+    Part::List,
+    Part::Create,
+    Part::Rotate,
+    Part::Call(Some(5), Wish::Deq),
+    Part::List,
+];
+
+/// A call of the log queue with this number, or of the durable one without.
+fn request(number: Option<u64>, wish: Wish) -> Result<Request, Refusal> {
+    let name = Name::make(if number.is_some() { LOG } else { DURABLE })?;
     Ok(Request {
         name,
-        number: None,
-        call,
+        number,
+        call: wish.call(),
     })
 }
 
@@ -141,64 +170,91 @@ impl<'a, J: Naming> Gate for Stopping<'a, J> {
     }
 }
 
-/// The calls before the histories end, of which a crash cuts one off.
-fn first_calls<J: Naming, R: Wait + Print + AllocGlobal>(
-    rt: &R,
-    shared: &Shared<J>,
-    post: &Post<J>,
-    seat: Seat<J>,
-) -> Result<Seat<J>>
-    requires client { seat.client ≡ record { 0 = 0 } }
-    requires clients { J.clients ≡ 1 }
-    ensures { IfOk result (λ next. next.client ≡ seat.client) }
-{
-    let seat = call(
-        rt,
-        shared,
-        seat,
-        &numbered(1, Call::Enq(item(7)))?,
-        &OpenGate,
-    )?;
-    let seat = call(
-        rt,
-        shared,
-        seat,
-        &numbered(2, Call::Enq(item(8)))?,
-        &OpenGate,
-    )?;
-    let seat = call(rt, shared, seat, &plain(Call::Enq(item(5)))?, &OpenGate)?;
-    crash(rt, shared, post)?;
-    recover(rt, shared)?;
-    let gate = Stopping {
-        shared,
-        post,
-        steps: u64::from(LOG_CLAIM_KEPT),
-    };
-    let seat = call(rt, shared, seat, &numbered(3, Call::Deq)?, &gate)?;
-    recover(rt, shared)?;
-    let seat = call(rt, shared, seat, &numbered(3, Call::Deq)?, &OpenGate)?;
-    let seat = call(
-        rt,
-        shared,
-        seat,
-        &numbered(4, Call::Enq(item(9)))?,
-        &OpenGate,
-    )?;
-    let gate = Stopping {
-        shared,
-        post,
-        steps: 7,
-    };
-    let seat = call(rt, shared, seat, &plain(Call::Deq)?, &gate)?;
-    recover(rt, shared)?;
-    call(rt, shared, seat, &plain(Call::Deq)?, &OpenGate)
-}
-
 /// Prints what the seat remembers.
 fn show_list<J: Naming, R: Print>(rt: &R, seat: &Seat<J>) -> Result<()> {
     for entry in seat.list.iter() {
         println!(rt; "  {entry:?}")?;
     }
+    Ok(())
+}
+
+/// Creates a third queue.
+fn create<J: Naming, R: Wait + Print>(rt: &R, shared: &Shared<J>) -> Result<()> {
+    let (created, _receipt) = shared.create(rt, b"c", Kind::Log);
+    println!(rt; "a queue: {created:?}")?;
+    Ok(())
+}
+
+/// The seat, once this is done.
+fn kept<J: Naming>(seat: Seat<J>, done: Result<()>) -> Result<Seat<J>>
+    ensures { IfOk result (λ next. next.client ≡ seat.client) }
+{
+    done?;
+    Ok(seat)
+}
+
+/// A part of the story.
+fn play_part<J: Naming, R: Wait + Print + AllocGlobal>(
+    rt: &R,
+    shared: &Shared<J>,
+    post: &Post<J>,
+    seat: Seat<J>,
+    part: Part,
+) -> Result<Seat<J>>
+    requires client { seat.client ≡ record { 0 = 0 } }
+    requires clients { J.clients ≡ 1 }
+    ensures { IfOk result (λ next. next.client ≡ seat.client) }
+{
+    match part {
+        Part::Call(number, wish) => call(rt, shared, seat, &request(number, wish)?, &OpenGate),
+        Part::CutOff(number, wish, steps) => {
+            let gate = Stopping {
+                shared,
+                post,
+                steps: u64::from(steps),
+            };
+            call(rt, shared, seat, &request(number, wish)?, &gate)
+        }
+        Part::Crash => kept(seat, crash(rt, shared, post)),
+        Part::Recover => kept(seat, recover(rt, shared)),
+        Part::Create => kept(seat, create(rt, shared)),
+        Part::Rotate => rotate(rt, shared, seat),
+        Part::List => {
+            let shown = show_list(rt, &seat);
+            kept(seat, shown)
+        }
+    }
+}
+
+/// The story, and all seats at its end.
+fn play_parts<J: Naming, R: Wait + Print + AllocGlobal>(
+    rt: &R,
+    shared: &Shared<J>,
+    post: &Post<J>,
+    seat: Seat<J>,
+) -> Result<Vec<Seat<J>>>
+    requires client { seat.client ≡ record { 0 = 0 } }
+    requires clients { J.clients ≡ 1 }
+    ensures { IfOk result (λ seats. AreAllInOrder (λ seat. seat.client) J.clients seats.items) }
+{
+    let mut seat = seat;
+    for part in &PARTS {
+        seat = play_part(rt, shared, post, seat, *part)?;
+    }
+    all(rt, seat)
+}
+
+/// Closes the session, and prints what can be seen of it.
+fn close<J: Naming, R: Wait + Print + AllocGlobal>(
+    rt: &R,
+    shared: Shared<J>,
+    seats: Vec<Seat<J>>,
+) -> Result<()>
+    requires { AreAllInOrder (λ seat. seat.client) J.clients seats.items }
+{
+    let session = shared.close(seats);
+    let text = seen(rt.alloc(), &session)?;
+    println!(rt; "{text}")?;
     Ok(())
 }
 
@@ -210,16 +266,11 @@ fn acts<J: Naming, R: Wait + Print + AllocGlobal>(rt: &R, opened: Opened) -> Res
         Ok(named) => named,
         Err(not) => return Ok(Some(not.session)),
     };
-    let seat = only(seats).ok_or(Refusal::NoClient)?;
-    let seat = first_calls(rt, &shared, &Mutex::new(Some(operator)), seat)?;
-    show_list(rt, &seat)?;
-    let (created, _receipt) = shared.create(rt, b"c", Kind::Log);
-    println!(rt; "a queue: {created:?}")?;
-    let seat = rotate(rt, &shared, seat)?;
-    let seat = call(rt, &shared, seat, &numbered(5, Call::Deq)?, &OpenGate)?;
-    show_list(rt, &seat)?;
-    let session = shared.close(all(rt, seat)?);
-    println!(rt; "{}", seen(rt.alloc(), &session)?)?;
+    let Some(seat) = only(seats) else {
+        return Err(Refusal::NoClient.into());
+    };
+    let seats = play_parts(rt, &shared, &Mutex::new(Some(operator)), seat)?;
+    close(rt, shared, seats)?;
     Ok(None)
 }
 
