@@ -5,7 +5,7 @@ ghost use Rattle.std.specs.Result.{OkIff};
 ghost use Rattle.clap.specs.Words.{app_of, first_value, found_of, kind_of, subcommand_rows_of};
 ghost use Rattle.options.specs.declared.limits.TheConstants.{DEFAULT_DRAW, MAX_DRAW, MAX_POINT};
 ghost use Rattle.options.specs.Numbers.{Fits, IsNumberGiven, decimal_value, given_text};
-ghost use Rattle.options.specs.PqxAsked.{AllFit, AreTaken, Asks, AsksBrokerPoints, AsksCheck, AsksPoints, AsksRun};
+ghost use Rattle.options.specs.PqxAsked.{AllFit, AreTaken, Asks, AsksBrokerPoints, AsksCheck, AsksRun};
 ghost use Rattle.options.specs.PqxAsked.{Chooses, IsChoice, IsPqxAsked, IsTask, CommandAsks, CommandFits, RefusesPqx};
 ghost use Rattle.options.specs.PqxCommands.{pqx_app};
 
@@ -93,21 +93,21 @@ fn point_count(given: Option<&str>) -> Result<Option<u64>, Misfit>
 }
 
 /// What a report on points is asked to be.
-fn point_options<'a>(given: &ArgMatches<'a>) -> Result<PointOptions<'a>, Misfit>
-    ensures asked { IfOk result (AsksPoints (first_value (found_of given.now))) }
+fn points<'a>(given: &ArgMatches<'a>) -> Result<PqxAsked<'a>, Misfit>
+    ensures asked { IfOk result (Asks (Some (codes "points")) (first_value (found_of given.now))) }
     ensures misfit { OnErr result (¬ (AllFit (first_value (found_of given.now)))) }
 {
     let choice = choice(given.get_str("evict"))?;
     let draw = draw(given.get_str("draw"))?;
     let from = first_point(given.get_str("from"))?;
     let count = point_count(given.get_str("count"))?;
-    Ok(PointOptions {
+    Ok(PqxAsked::Points(PointOptions {
         choice,
         draw,
         from,
         count,
         page: given.get_str("page"),
-    })
+    }))
 }
 
 /// What the transcript of a script is asked to be.
@@ -174,7 +174,7 @@ fn asked_by<'a>(command: &str, given: &ArgMatches<'a>) -> Result<PqxAsked<'a>, M
     ensures misfit { OnErr result (¬ (AllFit (first_value (found_of given.now)))) }
 {
     match command {
-        "points" => Ok(PqxAsked::Points(point_options(given)?)),
+        "points" => points(given),
         "alone" => Ok(PqxAsked::Alone),
         "check" => Ok(PqxAsked::Check(check_options(given))),
         "broker" => broker_task(given),
