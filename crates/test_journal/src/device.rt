@@ -190,11 +190,7 @@ fn is_read_as(alloc: Global, device: &FaultyAppender, words: &[u64]) -> Result<b
 }
 
 /// Whether a journal that was begun on these words has them, goes on, and keeps all.
-fn goes_on(
-    alloc: Global,
-    words: &[u64],
-    anew: &mut Journal<FaultyAppender>,
-) -> Result<bool, Fail> {
+fn goes_on(alloc: Global, words: &[u64], anew: &mut Journal<FaultyAppender>) -> Result<bool, Fail> {
     let is_begun = is_read_as(alloc, anew.device(), words)?;
     anew.append(alloc, &changes(7))?;
     anew.keep()?;
