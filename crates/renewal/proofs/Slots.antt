@@ -1,6 +1,6 @@
 -- What a slot has, by the directory, and its words in fresh records.
-use Rattle.std.proofs.Common.{◌≡◌, ◌<◌, ℕ, List, Option, Some, None, Result, Ok, Err, slice_get, sym, ap, subst, ◌∙◌, length, slice_index_or, arith}
-use Rattle.std.specs.Prelude.{IfOk, IfSome, OnOk}
+use Rattle.std.proofs.Common.{◌≡◌, ◌<◌, ℕ, List, Option, Some, None, Result, Ok, Err, slice_get, refl, sym, ap, subst, ◌∙◌, length, slice_index_or, arith}
+use Rattle.std.specs.Prelude.{IfErr, IfOk, IfSome, OnOk}
 use Rattle.persist.specs.Memory.{Words}
 use Rattle.arena.specs.Broker.{block_in}
 use Rattle.arena.specs.Form.{running}
@@ -78,3 +78,11 @@ if_ok P Q (Err _) f p = tt
 pub on_ok : {A E P Q : Type 0} (r : Result A E) → (P → Q) → OnOk r P → OnOk r Q
 on_ok (Ok _) f p = f p
 on_ok (Err _) f p = tt
+
+pub all_ok : {A E P : Type 0} (r : Result A E) → P → OnOk r P
+all_ok (Ok _) p = p
+all_ok (Err _) p = tt
+
+pub if_err : {A E : Type 0} (P Q : E → Type 0) (r : Result A E) → ((e : E) → r ≡ Err e → P e → Q e) → IfErr r P → IfErr r Q
+if_err P Q (Ok _) f p = tt
+if_err P Q (Err e) f p = f e refl p

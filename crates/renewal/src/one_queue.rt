@@ -35,8 +35,7 @@ fn fresh_in(
         unreachable!();
     };
     let layout = layout.queue(queue.kind);
-    let block = fresh_block(alloc, &layout, &block, &layout)?;
-    Ok(block)
+    fresh_block(alloc, &layout, &block, &layout)
 }
 
 /// The block of one slot's queue in fresh records: written over its block it makes a broker of which all else is as it
@@ -64,9 +63,6 @@ pub fn fresh_queue(
     }
     match &kept.directory.queues()[at] {
         None => Err(Refusal::NoQueue),
-        Some(queue) => {
-            let block = fresh_in(alloc, &kept.layout, memory, slot, queue)?;
-            Ok(block)
-        }
+        Some(queue) => fresh_in(alloc, &kept.layout, memory, slot, queue),
     }
 }
