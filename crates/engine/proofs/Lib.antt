@@ -5,6 +5,7 @@ mod Handling
 mod Long
 mod Buffers
 mod Replying
+mod Faults
 mod Telling
 mod Between
 mod Unknown
