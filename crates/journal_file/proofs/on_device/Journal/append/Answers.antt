@@ -14,7 +14,7 @@ invariant_of-self-then-is_err g c =
     let i = c.self.inside in
     let a = g.F.Appender in
     let inv = c.self.invariant in
-    let was : g.F.Appender.failed c.self.inside.device ≡ false = sym c.has_failed.ensures ∙ c.if-has_failed.false in
+    let was : g.F.Appender.failed c.self.inside.device ≡ false = search rules in
     let is : g.F.Appender.failed c.append.new.self ≡ true = c.append.ensures.failed ∙ sym c.is_err.ensures.value ∙ c.if-is_err.true in
     let part : AppendsPart (g.F.Appender.appended c.self.inside.device) (g.F.Appender.appended c.append.new.self) c.deref.result.now = search rules in (
       inv.0,
@@ -29,7 +29,7 @@ invariant_of-self-then-is_err g c =
 pub apply-requires : goal.apply-requires
 apply-requires g c = λ k d inside.
     let inv = c.self.invariant in
-    let was : g.F.Appender.failed c.self.inside.device ≡ false = sym c.has_failed.ensures ∙ c.if-has_failed.false in
+    let was : g.F.Appender.failed c.self.inside.device ≡ false = search rules in
     let there : length c.deref_mut.result.now ≡ length c.self.inside.words.items = search rules in
     let one = c.in_default.ensures.batch in
     omega (arith, there, (one.within k d inside).word, size_of_words inv.0 inv.1 inv.2 inv.3 _ inv.4 was)
@@ -39,7 +39,7 @@ invariant_of-self-2 g c =
     let i = c.self.inside in
     let a = g.F.Appender in
     let inv = c.self.invariant in
-    let was : g.F.Appender.failed c.self.inside.device ≡ false = sym c.has_failed.ensures ∙ c.if-has_failed.false in
+    let was : g.F.Appender.failed c.self.inside.device ≡ false = search rules in
     let is : g.F.Appender.failed c.append.new.self ≡ false = c.append.ensures.failed ∙ sym c.is_err.ensures.value ∙ c.if-is_err.false in
     let all : g.F.Appender.appended c.append.new.self ≡ append_known (g.F.Appender.appended c.self.inside.device) c.deref.result.now = search rules in
     let items : c.deref_mut.result.now ≡ c.self.inside.words.items = c.deref_mut.ensures.value in
@@ -60,36 +60,26 @@ invariant_of-self-2 g c =
 going_on : {P : Type 0} (failed was : Bool) → was ≡ false → was ≡ failed → failed ≡ true → P
 going_on failed was going same over = absurd (false≢true (sym going ∙ same ∙ over))
 
-pub returns-then-has_failed : goal.returns-then-has_failed
-returns-then-has_failed g c = record {
-  journal = tt;
-  words = tt;
-  going = tt;
-  same = refl;
-  no_more = λ key base batches count is. is;
-  kept = refl;
-  over = λ failed. (refl, refl);
-  errors = inl (refl, ap (λ (j : OnDevice). j.failed) (sym c.self.view_is) ∙ sym c.has_failed.ensures ∙ c.if-has_failed.true);
-}
-
 pub returns-then-self-gt-MAX_SIZE : goal.returns-then-self-gt-MAX_SIZE
-returns-then-self-gt-MAX_SIZE g c = record {
-  journal = tt;
-  words = tt;
-  going = tt;
-  same = refl;
-  no_more = λ key base batches count is. is;
-  kept = refl;
-  over = going_on _ _ (sym c.has_failed.ensures ∙ c.if-has_failed.false) (ap (λ (j : OnDevice). j.failed) c.self.view_is);
-  errors = inr (inl (refl, subst (λ (n : ℕ). 9223372036854775808 < n) (ap (λ (j : OnDevice). j.size) c.self.view_is) c.if-self-gt-MAX_SIZE.true, refl));
-}
+returns-then-self-gt-MAX_SIZE g c =
+    let was : g.F.Appender.failed c.self.inside.device ≡ false = search rules in
+    record {
+      journal = tt;
+      words = tt;
+      going = tt;
+      same = refl;
+      no_more = λ key base batches count is. is;
+      kept = refl;
+      over = going_on _ _ was (ap (λ (j : OnDevice). j.failed) c.self.view_is);
+      errors = inr (inl (refl, subst (λ (n : ℕ). 9223372036854775808 < n) (ap (λ (j : OnDevice). j.size) c.self.view_is) c.if-self-gt-MAX_SIZE.true, refl));
+    }
 
 pub returns-in-Err : goal.returns-in-Err
 returns-in-Err g c =
     let i = c.self.inside in
     let a = g.F.Appender in
     let inv = c.self.invariant in
-    let was : g.F.Appender.failed c.self.inside.device ≡ false = sym c.has_failed.ensures ∙ c.if-has_failed.false in
+    let was : g.F.Appender.failed c.self.inside.device ≡ false = search rules in
     let unchanged : on i.words.items c.frame.new.self i.size i.kept (a.appended i.device) (a.kept i.device) (a.failed i.device) ≡ c.args.self.now =
     ap (λ (end : End). on i.words.items end i.size i.kept (a.appended i.device) (a.kept i.device) (a.failed i.device)) c.in-Err.ensures.stays ∙ c.self.view_is in
     record {
@@ -110,7 +100,7 @@ pub returns-then-is_err : goal.returns-then-is_err
 returns-then-is_err g c =
     let i = c.self.inside in
     let a = g.F.Appender in
-    let was : g.F.Appender.failed c.self.inside.device ≡ false = sym c.has_failed.ensures ∙ c.if-has_failed.false in
+    let was : g.F.Appender.failed c.self.inside.device ≡ false = search rules in
     let is : g.F.Appender.failed c.append.new.self ≡ true = c.append.ensures.failed ∙ sym c.is_err.ensures.value ∙ c.if-is_err.true in
     let part : AppendsPart (g.F.Appender.appended c.self.inside.device) (g.F.Appender.appended c.append.new.self) c.deref.result.now = search rules in
     record {
@@ -131,7 +121,7 @@ pub returns : goal.returns
 returns g c =
     let i = c.self.inside in
     let a = g.F.Appender in
-    let was : g.F.Appender.failed c.self.inside.device ≡ false = sym c.has_failed.ensures ∙ c.if-has_failed.false in
+    let was : g.F.Appender.failed c.self.inside.device ≡ false = search rules in
     let is : g.F.Appender.failed c.append.new.self ≡ false = c.append.ensures.failed ∙ sym c.is_err.ensures.value ∙ c.if-is_err.false in
     let all : g.F.Appender.appended c.append.new.self ≡ append_known (g.F.Appender.appended c.self.inside.device) c.deref.result.now = search rules in
     let items : c.deref_mut.result.now ≡ c.self.inside.words.items = c.deref_mut.ensures.value in
