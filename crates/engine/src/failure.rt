@@ -33,8 +33,8 @@ impl From<Unsent> for Failure {
 impl fmt::Display for Failure {
     fn fmt<W: fmt::Write>(&self, f: &mut fmt::Formatter<W>) -> fmt::Result {
         match self {
-            Failure::ReadFailed => Refusal::ReadFailed.fmt(f),
-            Failure::WriteFailed => Refusal::WriteFailed.fmt(f),
+            Failure::ReadFailed => fmt::Display::fmt(&Refusal::ReadFailed, f),
+            Failure::WriteFailed => fmt::Display::fmt(&Refusal::WriteFailed, f),
             Failure::NotKept => f.write_str("31 NotKept"),
         }
     }
