@@ -30,7 +30,7 @@ static KINDS: [&str; 2] = ["durable", "log"];
 static CHECKERS: [&str; 2] = ["fast", "plain"];
 
 /// A word as clap has it.
-fn arg<'a>(alloc: Global, word: Word<'a>) -> Arg<'a> {
+fn arg<'a>(alloc: Global, word: &Word<'a>) -> Arg<'a> {
     let arg = Arg::new(alloc, word.id).help(word.help);
     match word.takes {
         Takes::Kind => arg.required(true).value_parser(KINDS.as_slice()),
@@ -40,165 +40,162 @@ fn arg<'a>(alloc: Global, word: Word<'a>) -> Arg<'a> {
     }
 }
 
-/// A number that has to stand there.
-fn number<'a>(id: &'a str, help: &'a str) -> Word<'a> {
-    Word {
-        id,
-        takes: Takes::Number,
-        help,
-    }
-}
-
-/// The kind of a queue.
-fn kinds<'a>() -> Word<'a> {
-    Word {
-        id: "kind",
-        takes: Takes::Kind,
-        help: "The kind of the queue",
-    }
-}
-
-/// How many turns are measured.
-fn turns<'a>() -> Word<'a> {
-    Word {
-        id: "turns",
-        takes: Takes::Turns,
-        help: "Prints the best of so many turns, in nanoseconds",
-    }
-}
-
-/// A load with its words.
-fn command<'a>(
-    alloc: Global,
+/// A load, and its words.
+#[derive(Clone, Copy)]
+struct Load<'a> {
     name: &'a str,
     about: &'a str,
-    words: &[Word<'a>],
-) -> Result<Command<'a>, AllocError> {
-    let mut command = Command::new(alloc, name).about(about);
-    for word in words {
-        command = command.arg(arg(alloc, *word))?;
+    words: &'a [Word<'a>],
+}
+
+/// A load as clap has it.
+fn command<'a>(alloc: Global, load: &Load<'a>) -> Result<Command<'a>, AllocError> {
+    let mut command = Command::new(alloc, load.name).about(load.about);
+    for word in load.words {
+        command = command.arg(arg(alloc, word))?;
     }
     Ok(command)
 }
 
-/// `acts KIND CLIENTS BEFORE ROUNDS [TURNS]`, and `slots` of the same
-fn acts<'a>(alloc: Global, name: &'a str, about: &'a str) -> Result<Command<'a>, AllocError> {
-    let words = [
-        kinds(),
-        number("clients", "At most 16"),
-        number("before", "Rounds before the measured ones"),
-        number("rounds", "The measured ones"),
-        turns(),
-    ];
-    command(alloc, name, about, &words)
-}
+const KIND: Word<'static> = Word {
+    id: "kind",
+    takes: Takes::Kind,
+    help: "The kind of the queue",
+};
 
-/// `restart CLIENTS RECORDS [TURNS]`
-fn restart<'a>(alloc: Global) -> Result<Command<'a>, AllocError> {
-    let about =
-        "Crashes a broker with one queue in the middle of a call, and recovers it, again and again";
-    let words = [
-        number("clients", "At most 16"),
-        number("records", "Those of each client"),
-        turns(),
-    ];
-    command(alloc, "restart", about, &words)
-}
+const CHECKER: Word<'static> = Word {
+    id: "checker",
+    takes: Takes::Checker,
+    help: "How it is checked",
+};
 
-/// `recover KIND RECORDS NODES [TURNS]`
-fn recover<'a>(alloc: Global) -> Result<Command<'a>, AllocError> {
-    let about =
-        "Fills a queue of one client, crashes it, and measures the crash and recovery to its end";
-    let words = [
-        kinds(),
-        number("records", "Those of the client"),
-        number("nodes", "How many values the queue holds"),
-        turns(),
-    ];
-    command(alloc, "recover", about, &words)
-}
+const CLIENTS: Word<'static> = Word {
+    id: "clients",
+    takes: Takes::Number,
+    help: "At most 16",
+};
 
-/// `crash WORDS [TURNS]`
-fn crash<'a>(alloc: Global) -> Result<Command<'a>, AllocError> {
-    let about = "Changes four words of a memory and crashes it, again and again";
-    let words = [number("words", "Those of the memory"), turns()];
-    command(alloc, "crash", about, &words)
-}
+const BEFORE: Word<'static> = Word {
+    id: "before",
+    takes: Takes::Number,
+    help: "Rounds before the measured ones",
+};
 
-/// `check CHECKER CLIENTS EVENTS TURNS`
-fn check<'a>(alloc: Global) -> Result<Command<'a>, AllocError> {
-    let words = [
-        Word {
-            id: "checker",
-            takes: Takes::Checker,
-            help: "How it is checked",
-        },
-        number("clients", "At most 16"),
-        number("events", "Those of the history"),
-        number("turns", "How often it is checked"),
-    ];
-    command(
-        alloc,
-        "check",
-        "Checks a made history so many times",
-        &words,
-    )
-}
+const ROUNDS: Word<'static> = Word {
+    id: "rounds",
+    takes: Takes::Number,
+    help: "The measured ones",
+};
 
-/// `threads QUEUES THREADS CALLS TURNS`
-fn threads<'a>(alloc: Global) -> Result<Command<'a>, AllocError> {
-    let about = "Clients of a shared session make calls, each in a thread of its own";
-    let words = [
-        number("queues", "At most 8"),
-        number("threads", "At most 16"),
-        number("calls", "How many each client makes"),
-        number("turns", "Prints the best of so many"),
-    ];
-    command(alloc, "threads", about, &words)
-}
+const RECORDS: Word<'static> = Word {
+    id: "records",
+    takes: Takes::Number,
+    help: "Those of each client",
+};
 
-/// `alone QUEUES CALLS TURNS`, and `plain` of the same
-fn alone<'a>(alloc: Global, name: &'a str, about: &'a str) -> Result<Command<'a>, AllocError> {
-    let words = [
-        number("queues", "At most 8"),
-        number("calls", "How many the client makes"),
-        number("turns", "Prints the best of so many"),
-    ];
-    command(alloc, name, about, &words)
-}
+const NODES: Word<'static> = Word {
+    id: "nodes",
+    takes: Takes::Number,
+    help: "How many values the queue holds",
+};
 
-static ON_A_WORLD: &str =
-    "Plays acts on a world, a round being one of each client, and measures the last rounds";
+const WORDS: Word<'static> = Word {
+    id: "words",
+    takes: Takes::Number,
+    help: "Those of the memory",
+};
 
-static IN_A_BROKER: &str = "Plays them on the last of a broker's eight queues";
+const EVENTS: Word<'static> = Word {
+    id: "events",
+    takes: Takes::Number,
+    help: "Those of the history",
+};
 
-static BY_STEPS: &str = "One client makes calls on a session, step by step";
+const QUEUES: Word<'static> = Word {
+    id: "queues",
+    takes: Takes::Number,
+    help: "At most 8",
+};
 
-static BY_CALLS: &str = "One client makes calls on a session, each of which runs to its end";
+const THREADS: Word<'static> = Word {
+    id: "threads",
+    takes: Takes::Number,
+    help: "At most 16",
+};
 
-/// The load of this number, from 0 on.
-fn load<'a>(alloc: Global, number: u8) -> Result<Command<'a>, AllocError> {
-    match number {
-        0 => acts(alloc, "acts", ON_A_WORLD),
-        1 => acts(alloc, "slots", IN_A_BROKER),
-        2 => restart(alloc),
-        3 => recover(alloc),
-        4 => crash(alloc),
-        5 => check(alloc),
-        6 => threads(alloc),
-        7 => alone(alloc, "alone", BY_STEPS),
-        _ => alone(alloc, "plain", BY_CALLS),
-    }
-}
+const CALLS: Word<'static> = Word {
+    id: "calls",
+    takes: Takes::Number,
+    help: "How many each client makes",
+};
+
+const TURNS: Word<'static> = Word {
+    id: "turns",
+    takes: Takes::Number,
+    help: "How often; the best turn is printed",
+};
+
+const MAYBE_TURNS: Word<'static> = Word {
+    id: "turns",
+    takes: Takes::Turns,
+    help: "Prints the best of so many turns, in nanoseconds",
+};
+
+static LOADS: [Load<'static>; 9] = [
+    Load {
+        name: "acts",
+        about: "Plays acts on a world, a round being one of each client, and measures the last rounds",
+        words: &[KIND, CLIENTS, BEFORE, ROUNDS, MAYBE_TURNS],
+    },
+    Load {
+        name: "slots",
+        about: "Plays them on the last of a broker's eight queues",
+        words: &[KIND, CLIENTS, BEFORE, ROUNDS, MAYBE_TURNS],
+    },
+    Load {
+        name: "restart",
+        about: "Crashes a broker with one queue in the middle of a call, and recovers it, again and again",
+        words: &[CLIENTS, RECORDS, MAYBE_TURNS],
+    },
+    Load {
+        name: "recover",
+        about: "Fills a queue of one client, crashes it, and measures the crash and recovery to its end",
+        words: &[KIND, RECORDS, NODES, MAYBE_TURNS],
+    },
+    Load {
+        name: "crash",
+        about: "Changes four words of a memory and crashes it, again and again",
+        words: &[WORDS, MAYBE_TURNS],
+    },
+    Load {
+        name: "check",
+        about: "Checks a made history so many times",
+        words: &[CHECKER, CLIENTS, EVENTS, TURNS],
+    },
+    Load {
+        name: "threads",
+        about: "Clients of a shared session make calls, each in a thread of its own",
+        words: &[QUEUES, THREADS, CALLS, TURNS],
+    },
+    Load {
+        name: "alone",
+        about: "One client makes calls on a session, step by step",
+        words: &[QUEUES, CALLS, TURNS],
+    },
+    Load {
+        name: "plain",
+        about: "One client makes calls on a session, each of which runs to its end",
+        words: &[QUEUES, CALLS, TURNS],
+    },
+];
 
 /// All loads.
 fn loads<'a>(alloc: Global) -> Result<Command<'a>, AllocError> {
     let mut all = Command::new(alloc, "bench_load").about(
         "Plays loads that are timed; without a command, a small one of each",
     );
-    for number in 0..9u8 {
-        let load = load(alloc, number)?;
-        all = all.subcommand(load)?;
+    for load in &LOADS {
+        all = all.subcommand(command(alloc, load)?)?;
     }
     Ok(all)
 }
