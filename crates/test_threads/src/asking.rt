@@ -12,9 +12,6 @@ use test_support::sessions::A;
 use words::{Call, Refusal, Reply};
 use workers::{Answer, End, Entry, Naming, OpenGate, Operator, Request, Seat, Shared};
 
-/// The client's call took effect, or was answered from what is kept.
-pub(crate) const DONE: Answer = Answer::Reply(Reply::Done);
-
 /// A call in the queue `a`, which is durable.
 pub(crate) fn plain(call: Call) -> Result<Request, Refusal> {
     let name = Name::make(b"a")?;

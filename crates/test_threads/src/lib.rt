@@ -16,10 +16,6 @@ mod held;
 #[cfg(test)]
 mod lists;
 #[cfg(test)]
-mod renewals;
-#[cfg(test)]
-mod rotations;
-#[cfg(test)]
 mod seats;
 #[cfg(test)]
 mod staging;

@@ -11,12 +11,9 @@ use workers::{End, Entry, Naming, Seat};
 /// How many events the history of each slot has; 0 where the slot is closed.
 pub(crate) type Lengths = [usize; SLOTS];
 
-/// How long histories are that have just begun.
-const NEW: Lengths = [0; SLOTS];
-
 /// How long all histories are.
 pub(crate) fn lengths(session: &Session) -> Lengths {
-    let mut lengths = NEW;
+    let mut lengths = [0; SLOTS];
     for slot in 0..SLOTS {
         lengths[slot] = events_of(session, SlotId(slot as u8)).map_or(0, |events| events.len());
     }
@@ -145,8 +142,8 @@ fn fits(
     Ok(right)
 }
 
-/// Whether each client's list fits the histories, each from its place on.
-fn fit(
+/// Whether each client's list is what the histories have of it, each from its place on.
+pub(crate) fn are_accounted_for(
     alloc: Global,
     session: &Session,
     lists: &[Vec<Entry>],
@@ -158,15 +155,4 @@ fn fit(
         client = client.saturating_add(1);
     }
     Ok(right)
-}
-
-/// Whether each client's list is what the histories have of it, since they had these lengths or, where they have ended
-/// since, since they began.
-pub(crate) fn are_accounted_for(
-    alloc: Global,
-    session: &Session,
-    lists: &[Vec<Entry>],
-    since: &Lengths,
-) -> Result<bool, AllocError> {
-    Ok(fit(alloc, session, lists, since)? || fit(alloc, session, lists, &NEW)?)
 }

@@ -17,7 +17,7 @@ use roll::Roll;
 use words::{Client, Refusal, Told};
 
 /// What a queue holds, and how many records it has for that.
-#[derive(Clone, Copy, Debug, PartialEq, Eq)]
+#[derive(Clone, Copy)]
 pub struct Usage {
     /// How many items it holds.
     pub items: usize,
