@@ -1,6 +1,5 @@
 //! Calls that are looked at before and after, and made again where they were refused memory.
 
-use anyhow::Result;
 use arena::SlotId;
 use persist::{Change, HEADER_BYTES, NUMBER_BYTES};
 use std::alloc::Global;
@@ -106,14 +105,11 @@ pub(crate) fn seen<S: Subject>(alloc: Global, subject: &S) -> Result<String, Ref
     Err(Refusal::NoMemory)
 }
 
-/// Says that a call is made again, and whether what can be seen is as it was before.
-pub(crate) fn say_again<R: Print>(rt: &R, call: &str, is_same: bool) -> Result<()> {
-    if is_same {
-        println!(rt; "again: {call}")?;
-    } else {
-        println!(rt; "changed: {call}")?;
-    }
-    Ok(())
+/// Says that a call is made again, and whether what can be seen is as it was before. A line that cannot be printed is
+/// missed in what is compared, so nobody is told of it here.
+pub(crate) fn say_again<R: Print>(rt: &R, call: &str, is_same: bool) {
+    let what = if is_same { "again" } else { "changed" };
+    let _ = println!(rt; "{what}: {call}");
 }
 
 /// Makes a call, and once more where it was refused memory: it is to leave what can be seen as it was.
@@ -121,7 +117,7 @@ fn made_at_last<S: Subject, R: Print + AllocGlobal>(
     rt: &R,
     subject: &mut S,
     act: S::Act,
-) -> Result<Result<Answer, Refusal>> {
+) -> Result<Result<Answer, Refusal>, Refusal> {
     for _ in 0..MOST_TRIES {
         let before = seen(rt.alloc(), subject)?;
         let answer = subject.act(act);
@@ -129,23 +125,17 @@ fn made_at_last<S: Subject, R: Print + AllocGlobal>(
             return Ok(answer);
         }
         let after = seen(rt.alloc(), subject)?;
-        say_again(rt, S::call(act), before.as_str() == after.as_str())?;
+        say_again(rt, S::call(act), before.as_str() == after.as_str());
     }
-    Err(Refusal::NoMemory.into())
+    Err(Refusal::NoMemory)
 }
 
 /// Prints what the last of so many acts answers.
-fn say<S: Subject, R: Print>(
-    rt: &R,
-    times: u32,
-    act: S::Act,
-    answer: &Result<Answer, Refusal>,
-) -> Result<()> {
-    match answer {
-        Ok(answer) => println!(rt; "{times} {act:?}: {answer:?}")?,
-        Err(refusal) => println!(rt; "{times} {act:?}: refused, {}", refusal.name())?,
-    }
-    Ok(())
+fn say<S: Subject, R: Print>(rt: &R, times: u32, act: S::Act, answer: &Result<Answer, Refusal>) {
+    let _ = match answer {
+        Ok(answer) => println!(rt; "{times} {act:?}: {answer:?}"),
+        Err(refusal) => println!(rt; "{times} {act:?}: refused, {}", refusal.name()),
+    };
 }
 
 /// Makes an act again and again while it answers that there is more to come, so many times at most, and prints what the
@@ -155,11 +145,12 @@ fn repeat<S: Subject, R: Print + AllocGlobal>(
     subject: &mut S,
     most: u32,
     act: S::Act,
-) -> Result<()> {
+) -> Result<(), Refusal> {
     for times in 1..=most {
         let answer = made_at_last(rt, subject, act)?;
         if times == most || !matches!(answer, Ok(Answer::More)) {
-            return say::<S, R>(rt, times, act, &answer);
+            say::<S, R>(rt, times, act, &answer);
+            return Ok(());
         }
     }
     Ok(())
@@ -170,12 +161,12 @@ pub(crate) fn play<S: Subject, R: Print + AllocGlobal>(
     rt: &R,
     subject: &mut S,
     story: &[(u32, S::Act)],
-) -> Result<()> {
+) -> Result<(), Refusal> {
     for (times, act) in story {
         repeat(rt, subject, *times, *act)?;
     }
     let text = seen(rt.alloc(), subject)?;
-    println!(rt; "{text}")?;
+    let _ = println!(rt; "{text}");
     Ok(())
 }
 
@@ -184,15 +175,15 @@ pub(crate) fn made<T: Drop, F: FnMut() -> Result<T, Refusal>, R: Print>(
     rt: &R,
     call: &str,
     mut make: F,
-) -> Result<T>
+) -> Result<T, Refusal>
     requires { F.IsAlwaysCallable make }
 {
     for _ in 0..MOST_TRIES {
         match make() {
             Ok(made) => return Ok(made),
-            Err(Refusal::NoMemory) => say_again(rt, call, true)?,
-            Err(refusal) => return Err(refusal.into()),
+            Err(Refusal::NoMemory) => say_again(rt, call, true),
+            Err(refusal) => return Err(refusal),
         }
     }
-    Err(Refusal::NoMemory.into())
+    Err(Refusal::NoMemory)
 }

@@ -5,18 +5,16 @@ ghost use Rattle.std.specs.Prelude.{◌≡◌, IfOk};
 
 use crate::again::{MOST_TRIES, say_again};
 use crate::seats::{all, only, seen_beside};
-use anyhow::Result;
 use std::sync::Wait;
 use words::Refusal;
 use workers::{Answer, Gate, Naming, OpenGate, Request, Seat, Shared};
 
 /// Prints what a call came to.
-fn show<R: Print>(rt: &R, asked: &Request, answer: Answer) -> Result<()> {
-    println!(rt;
+fn show<R: Print>(rt: &R, asked: &Request, answer: Answer) {
+    let _ = println!(rt;
         "{} {:?} {:?}: {answer:?}",
         asked.name, asked.number, asked.call
-    )?;
-    Ok(())
+    );
 }
 
 /// Tries to end the histories while the call is under way. That must be refused, and leave the seat's list as it is.
@@ -24,7 +22,7 @@ fn rotate_too_early<J: Naming, R: Wait + Print + AllocGlobal>(
     rt: &R,
     shared: &Shared<J>,
     seat: Seat<J>,
-) -> Result<Seat<J>>
+) -> Result<Seat<J>, Refusal>
     requires client { seat.client ≡ record { 0 = 0 } }
     requires clients { J.clients ≡ 1 }
     ensures { IfOk result (λ next. next.client ≡ seat.client) }
@@ -34,9 +32,9 @@ fn rotate_too_early<J: Naming, R: Wait + Print + AllocGlobal>(
     let seat = only(seats).ok_or(Refusal::NoClient)?;
     let after = seen_beside(rt, shared, &seat.list)?;
     if matches!(rotated, Err(Refusal::Busy)) && before.as_str() == after.as_str() {
-        println!(rt; "busy")?;
+        let _ = println!(rt; "busy");
     } else {
-        println!(rt; "changed: Shared::rotate")?;
+        let _ = println!(rt; "changed: Shared::rotate");
     }
     Ok(seat)
 }
@@ -47,7 +45,7 @@ fn finish<J: Naming, R: Wait + Print + AllocGlobal>(
     shared: &Shared<J>,
     seat: Seat<J>,
     asked: &Request,
-) -> Result<Seat<J>>
+) -> Result<Seat<J>, Refusal>
     requires client { seat.client ≡ record { 0 = 0 } }
     requires clients { J.clients ≡ 1 }
     ensures { IfOk result (λ next. next.client ≡ seat.client) }
@@ -58,11 +56,11 @@ fn finish<J: Naming, R: Wait + Print + AllocGlobal>(
         let (next, answer) = shared.finish(rt, seat, &OpenGate);
         seat = next;
         if answer != Answer::Unfinished {
-            show(rt, asked, answer)?;
+            show(rt, asked, answer);
             return Ok(seat);
         }
     }
-    Err(Refusal::NoMemory.into())
+    Err(Refusal::NoMemory)
 }
 
 /// Makes a call.
@@ -72,7 +70,7 @@ pub(crate) fn call<J: Naming, G: Gate, R: Wait + Print + AllocGlobal>(
     seat: Seat<J>,
     asked: &Request,
     gate: &G,
-) -> Result<Seat<J>>
+) -> Result<Seat<J>, Refusal>
     requires client { seat.client ≡ record { 0 = 0 } }
     requires clients { J.clients ≡ 1 }
     ensures { IfOk result (λ next. next.client ≡ seat.client) }
@@ -85,17 +83,17 @@ pub(crate) fn call<J: Naming, G: Gate, R: Wait + Print + AllocGlobal>(
         match answer {
             Answer::Refused(Refusal::NoMemory) => {
                 let after = seen_beside(rt, shared, &seat.list)?;
-                say_again(rt, "Shared::call", before.as_str() == after.as_str())?;
+                say_again(rt, "Shared::call", before.as_str() == after.as_str());
             }
             Answer::Unfinished => {
-                println!(rt; "unfinished: Shared::call")?;
+                let _ = println!(rt; "unfinished: Shared::call");
                 return finish(rt, shared, seat, asked);
             }
             _ => {
-                show(rt, asked, answer)?;
+                show(rt, asked, answer);
                 return Ok(seat);
             }
         }
     }
-    Err(Refusal::NoMemory.into())
+    Err(Refusal::NoMemory)
 }

@@ -6,7 +6,6 @@ ghost use Rattle.workers.specs.Opening.{IsNameOf};
 use crate::again::{MOST_TRIES, empty_text, say_again};
 use crate::pipes::opened_at_last;
 use crate::written::{Written, text_of};
-use anyhow::Result;
 use desk::{BrokerDesk, Seating};
 use devices::{CountedWriter, FaultyReader};
 use directory::Name;
@@ -105,13 +104,16 @@ static LINES: [(Asks, &str); 24] = [
 ];
 
 /// What can be seen of the broker beside the desk.
-fn seen_beside<J: Naming, R: Wait + AllocGlobal>(rt: &R, shared: &Shared<J>) -> Result<String> {
+fn seen_beside<J: Naming, R: Wait + AllocGlobal>(
+    rt: &R,
+    shared: &Shared<J>,
+) -> Result<String, Refusal> {
     let mut text = empty_text(rt.alloc())?;
-    write!(text, "{:?}", shared.list(rt))?;
+    write!(text, "{:?}", shared.list(rt)).map_err(|_| Refusal::NoMemory)?;
     for name in [b"a", b"b", b"c"] {
         for client in 0..2u8 {
             let told = shared.told(rt, Client(client), &Name::make(name)?).0;
-            write!(text, " {told:?}")?;
+            write!(text, " {told:?}").map_err(|_| Refusal::NoMemory)?;
         }
     }
     Ok(text)
@@ -136,17 +138,17 @@ fn served_at_last<J: Naming, R: Wait + Print + AllocGlobal>(
     shared: &Shared<J>,
     desk: &mut BrokerDesk<'_, J>,
     line: &str,
-) -> Result<Written> {
+) -> Result<Written, Refusal> {
     for _ in 0..MOST_TRIES {
         let before = seen_beside(rt, shared)?;
-        let reply = served(rt, desk, line)?;
+        let reply = served(rt, desk, line).map_err(|_| Refusal::WriteFailed)?;
         if !reply.as_slice().starts_with(br#"{"error":6,"#) {
             return Ok(reply);
         }
         let after = seen_beside(rt, shared)?;
-        say_again(rt, "a request at a desk", before.as_str() == after.as_str())?;
+        say_again(rt, "a request at a desk", before.as_str() == after.as_str());
     }
-    Err(Refusal::NoMemory.into())
+    Err(Refusal::NoMemory)
 }
 
 /// What comes of an open call. What a numbered one is answered when it is sent again, which finishes it; else what its
@@ -157,19 +159,19 @@ fn finished<J: Naming, R: Wait + Print + AllocGlobal>(
     desk: &mut BrokerDesk<'_, J>,
     asks: Asks,
     line: &str,
-) -> Result<()> {
-    println!(rt; "unfinished: a request at a desk")?;
+) -> Result<(), Refusal> {
+    let _ = println!(rt; "unfinished: a request at a desk");
     if matches!(asks, Asks::Numbered) {
         let reply = served_at_last(rt, shared, desk, line)?;
-        print!(rt; "{}", text_of(reply.as_slice()))?;
+        let _ = print!(rt; "{}", text_of(reply.as_slice()));
         return Ok(());
     }
     let reply = served_at_last(rt, shared, desk, FINISHING)?;
     if reply.as_slice() != WRONG_KIND {
-        println!(rt; "changed: the kind of the queue")?;
+        let _ = println!(rt; "changed: the kind of the queue");
     }
     if matches!(asks, Asks::Put) {
-        print!(rt; "{}", text_of(DONE))?;
+        let _ = print!(rt; "{}", text_of(DONE));
     }
     Ok(())
 }
@@ -181,14 +183,14 @@ fn play_line<J: Naming, R: Wait + Print + AllocGlobal>(
     desk: &mut BrokerDesk<'_, J>,
     asks: Asks,
     line: &str,
-) -> Result<()> {
-    println!(rt; "{line}")?;
+) -> Result<(), Refusal> {
+    let _ = println!(rt; "{line}");
     let reply = served_at_last(rt, shared, desk, line)?;
     if reply.as_slice() == UNFINISHED {
         return finished(rt, shared, desk, asks, line);
     }
     if !matches!(asks, Asks::Take) {
-        print!(rt; "{}", text_of(reply.as_slice()))?;
+        let _ = print!(rt; "{}", text_of(reply.as_slice()));
     }
     Ok(())
 }
@@ -198,14 +200,14 @@ fn desk_at_last<'a, J: Naming, R: Wait + Print + AllocGlobal>(
     rt: &R,
     shared: &'a Shared<J>,
     seats: &'a Seating<J>,
-) -> Result<BrokerDesk<'a, J>> {
+) -> Result<BrokerDesk<'a, J>, Refusal> {
     for _ in 0..MOST_TRIES {
         if let Ok(desk) = BrokerDesk::new(rt.alloc(), shared, seats) {
             return Ok(desk);
         }
-        say_again(rt, "BrokerDesk::new", true)?;
+        say_again(rt, "BrokerDesk::new", true);
     }
-    Err(Refusal::NoMemory.into())
+    Err(Refusal::NoMemory)
 }
 
 /// All lines at one desk.
@@ -213,12 +215,12 @@ fn play_lines<J: Naming, R: Wait + Print + AllocGlobal>(
     rt: &R,
     shared: &Shared<J>,
     seats: &Seating<J>,
-) -> Result<()> {
+) -> Result<(), Refusal> {
     let mut desk = desk_at_last(rt, shared, seats)?;
     for (asks, line) in &LINES {
         play_line(rt, shared, &mut desk, *asks, line)?;
     }
-    println!(rt; "stopped: {}", desk.is_stopped())?;
+    let _ = println!(rt; "stopped: {}", desk.is_stopped());
     Ok(())
 }
 
@@ -233,23 +235,26 @@ enum Came {
 
 /// The lines, once the broker has its name and its seats are given out. These are put away and taken back first, since
 /// the broker is lost where that is refused memory.
-fn play_named<J: Naming, R: Wait + Print + AllocGlobal>(rt: &R, opened: Opened) -> Result<Came>
+fn play_named<J: Naming, R: Wait + Print + AllocGlobal>(
+    rt: &R,
+    opened: Opened,
+) -> Result<Came, Refusal>
     requires { IsNameOf J.roll J.clients J.first opened }
 {
     let Ok((shared, seats, operator)) = opened.named::<J>(rt.alloc()) else {
-        say_again(rt, "Opened::named", true)?;
+        say_again(rt, "Opened::named", true);
         return Ok(Came::Nowhere);
     };
     let Ok(seating) = Seating::new(rt.alloc(), seats, operator) else {
-        say_again(rt, "Seating::new", true)?;
+        say_again(rt, "Seating::new", true);
         return Ok(Came::Nowhere);
     };
     let Ok((seats, operator)) = seating.into_parts(rt.alloc()) else {
-        say_again(rt, "Seating::into_parts", true)?;
+        say_again(rt, "Seating::into_parts", true);
         return Ok(Came::Nowhere);
     };
     let Ok(seating) = Seating::new(rt.alloc(), seats, operator) else {
-        say_again(rt, "Seating::new", true)?;
+        say_again(rt, "Seating::new", true);
         return Ok(Came::Nowhere);
     };
     play_lines(rt, &shared, &seating)?;
@@ -257,17 +262,17 @@ fn play_named<J: Naming, R: Wait + Print + AllocGlobal>(rt: &R, opened: Opened) 
 }
 
 /// A broker that begins on the image serves lines at a desk.
-pub(crate) fn tell<R: Wait + Print + AllocGlobal>(rt: &R, image: &[u8]) -> Result<()> {
-    println!(rt; "# A desk")?;
+pub(crate) fn tell<R: Wait + Print + AllocGlobal>(rt: &R, image: &[u8]) -> Result<(), Refusal> {
+    let _ = println!(rt; "# A desk");
     for _ in 0..MOST_TRIES {
         let session = Session::open(opened_at_last(rt, Some(image))?);
         let Ok(opened) = Opened::new(rt.alloc(), session) else {
-            say_again(rt, "Opened::new", true)?;
+            say_again(rt, "Opened::new", true);
             continue;
         };
         if play_named::<Brand, R>(rt, opened)? == Came::Whole {
             return Ok(());
         }
     }
-    Err(Refusal::NoMemory.into())
+    Err(Refusal::NoMemory)
 }

@@ -17,8 +17,9 @@ mod shareds;
 mod written;
 
 use crate::line::command_line;
-use anyhow::Result;
+use std::process::ExitCode;
 use std::sync::Wait;
+use words::Refusal;
 
 /// A part of the story.
 #[derive(Clone, Copy)]
@@ -36,7 +37,7 @@ static PARTS: [(&str, Part); 3] = [
 ];
 
 /// Tells a part.
-fn tell<R: Wait + Print + AllocGlobal>(rt: &R, part: Part) -> Result<()> {
+fn tell<R: Wait + Print + AllocGlobal>(rt: &R, part: Part) -> Result<(), Refusal> {
     match part {
         Part::Sessions => sessions::tell(rt),
         Part::Shareds => shareds::tell(rt),
@@ -48,7 +49,7 @@ fn tell<R: Wait + Print + AllocGlobal>(rt: &R, part: Part) -> Result<()> {
 }
 
 /// Tells the part of this name, or all where there is none.
-fn tell_named<R: Wait + Print + AllocGlobal>(rt: &R, wanted: Option<&str>) -> Result<()> {
+fn tell_named<R: Wait + Print + AllocGlobal>(rt: &R, wanted: Option<&str>) -> Result<(), Refusal> {
     for (name, part) in &PARTS {
         if wanted.is_none_or(|wanted| wanted == *name) {
             tell(rt, *part)?;
@@ -57,7 +58,13 @@ fn tell_named<R: Wait + Print + AllocGlobal>(rt: &R, wanted: Option<&str>) -> Re
     Ok(())
 }
 
-fn main(rt: HostRuntime) -> Result<()> {
-    let words = command_line(&rt, rt.alloc())?;
-    tell_named(&rt, words.get(1).map(|word| word.as_str()))
+fn main(rt: HostRuntime) -> ExitCode {
+    let told = command_line(&rt, rt.alloc()).and_then(|words| tell_named(
+        &rt,
+        words.get(1).map(|word| word.as_str()),
+    ));
+    match told {
+        Ok(()) => ExitCode::SUCCESS,
+        Err(_) => ExitCode::FAILURE,
+    }
 }

@@ -5,7 +5,6 @@ ghost use Rattle.session.specs.Sessions.{IsUncalled};
 
 use crate::again::{MOST_TRIES, made, say_again};
 use crate::written::{Written, text_of};
-use anyhow::Result;
 use devices::{CountedWriter, FaultyReader, Unread, read_all};
 use named::Broker;
 use requests::request;
@@ -67,17 +66,20 @@ fn are_wanting(replies: &[u8]) -> bool {
 }
 
 /// A broker that is new, or begins on an image.
-pub(crate) fn opened_at_last<R: Print + AllocGlobal>(rt: &R, image: Option<&[u8]>) -> Result<Broker>
+pub(crate) fn opened_at_last<R: Print + AllocGlobal>(
+    rt: &R,
+    image: Option<&[u8]>,
+) -> Result<Broker, Refusal>
     ensures { IfOk result IsUncalled }
 {
     for _ in 0..MOST_TRIES {
         match opened(rt.alloc(), 2, 6, image) {
             Ok(broker) => return Ok(broker),
-            Err(Refusal::NoMemory) => say_again(rt, "server::opened", true)?,
-            Err(refusal) => return Err(refusal.into()),
+            Err(Refusal::NoMemory) => say_again(rt, "server::opened", true),
+            Err(refusal) => return Err(refusal),
         }
     }
-    Err(Refusal::NoMemory.into())
+    Err(Refusal::NoMemory)
 }
 
 /// Pipes an input through a broker, and all of it again where one of its requests was refused memory, or the image was.
@@ -86,7 +88,7 @@ fn piped<R: Wait + Print + AllocGlobal>(
     rt: &R,
     image: Option<&[u8]>,
     input: &str,
-) -> Result<Vec<u8>> {
+) -> Result<Vec<u8>, Refusal> {
     for _ in 0..MOST_TRIES {
         let broker = opened_at_last(rt, image)?;
         let mut reader = FaultyReader::new(input.as_bytes(), usize::MAX);
@@ -96,29 +98,29 @@ fn piped<R: Wait + Print + AllocGlobal>(
         let replies = written.as_slice();
         match left {
             Ok(left) if !are_wanting(replies) => {
-                print!(rt; "{}", text_of(replies))?;
+                let _ = print!(rt; "{}", text_of(replies));
                 return Ok(left);
             }
-            Ok(_) => say_again(rt, "a request of server::pipe", true)?,
-            Err(Refusal::NoMemory) => say_again(rt, "server::pipe", true)?,
-            Err(refusal) => return Err(refusal.into()),
+            Ok(_) => say_again(rt, "a request of server::pipe", true),
+            Err(Refusal::NoMemory) => say_again(rt, "server::pipe", true),
+            Err(refusal) => return Err(refusal),
         }
     }
-    Err(Refusal::NoMemory.into())
+    Err(Refusal::NoMemory)
 }
 
 /// Reads a line, and prints what it asks for.
-fn read_line<R: Print + AllocGlobal>(rt: &R, line: &str) -> Result<()> {
+fn read_line<R: Print + AllocGlobal>(rt: &R, line: &str) -> Result<(), Refusal> {
     for _ in 0..MOST_TRIES {
         match request(rt.alloc(), line.as_bytes()) {
-            Err(Refusal::NoMemory) => say_again(rt, "requests::request", true)?,
+            Err(Refusal::NoMemory) => say_again(rt, "requests::request", true),
             read => {
-                println!(rt; "{line}: {read:?}")?;
+                let _ = println!(rt; "{line}: {read:?}");
                 return Ok(());
             }
         }
     }
-    Err(Refusal::NoMemory.into())
+    Err(Refusal::NoMemory)
 }
 
 /// All bytes of a reader.
@@ -132,8 +134,8 @@ fn all_read(alloc: Global, bytes: &[u8]) -> Result<Vec<u8>, Refusal> {
 }
 
 /// Lines that are read alone, and inputs that are piped. The image that the last one leaves.
-pub(crate) fn tell<R: Wait + Print + AllocGlobal>(rt: &R) -> Result<Vec<u8>> {
-    println!(rt; "# Lines")?;
+pub(crate) fn tell<R: Wait + Print + AllocGlobal>(rt: &R) -> Result<Vec<u8>, Refusal> {
+    let _ = println!(rt; "# Lines");
     for line in &LINES {
         read_line(rt, line)?;
     }
@@ -143,8 +145,8 @@ pub(crate) fn tell<R: Wait + Print + AllocGlobal>(rt: &R) -> Result<Vec<u8>> {
         "devices::read_all",
         || all_read(alloc, INPUTS[0].as_bytes()),
     )?;
-    println!(rt; "{} bytes are read", read.len())?;
-    println!(rt; "# Pipes")?;
+    let _ = println!(rt; "{} bytes are read", read.len());
+    let _ = println!(rt; "# Pipes");
     let mut image = piped(rt, None, INPUTS[0])?;
     for input in &INPUTS[1..] {
         image = piped(rt, Some(&image), input)?;

@@ -4,7 +4,6 @@ ghost use Rattle.std.specs.Prelude.{◌≡◌, IfOk, IfSome};
 ghost use Rattle.workers.specs.Seats.{AreAllInOrder};
 
 use crate::again::{MOST_TRIES, empty_text};
-use anyhow::Result;
 use directory::Name;
 use std::fmt::Write;
 use std::sync::Wait;
@@ -31,7 +30,7 @@ pub(crate) fn only<J: Naming>(mut seats: Vec<Seat<J>>) -> Option<Seat<J>>
 }
 
 /// All seats, of which there is one. The room for it is asked for again where it was refused.
-pub(crate) fn all<J: Naming, R: AllocGlobal>(rt: &R, seat: Seat<J>) -> Result<Vec<Seat<J>>>
+pub(crate) fn all<J: Naming, R: AllocGlobal>(rt: &R, seat: Seat<J>) -> Result<Vec<Seat<J>>, Refusal>
     requires client { seat.client ≡ record { 0 = 0 } }
     requires clients { J.clients ≡ 1 }
     ensures { IfOk result (λ seats. AreAllInOrder (λ seat. seat.client) J.clients seats.items) }
@@ -43,7 +42,7 @@ pub(crate) fn all<J: Naming, R: AllocGlobal>(rt: &R, seat: Seat<J>) -> Result<Ve
             return Ok(seats);
         }
     }
-    Err(Refusal::NoMemory.into())
+    Err(Refusal::NoMemory)
 }
 
 /// What can be seen of a shared session while it is shared, and the list of the seat.
@@ -51,11 +50,11 @@ pub(crate) fn seen_beside<J: Naming, R: Wait + AllocGlobal>(
     rt: &R,
     shared: &Shared<J>,
     list: &[Entry],
-) -> Result<String> {
+) -> Result<String, Refusal> {
     let mut text = empty_text(rt.alloc())?;
     let queues = shared.list(rt);
     let numbered = shared.told(rt, CLIENT, &Name::make(LOG)?).0;
     let plain = shared.told(rt, CLIENT, &Name::make(DURABLE)?).0;
-    write!(text, "{queues:?} {numbered:?} {plain:?} {list:?}")?;
+    write!(text, "{queues:?} {numbered:?} {plain:?} {list:?}").map_err(|_| Refusal::NoMemory)?;
     Ok(text)
 }

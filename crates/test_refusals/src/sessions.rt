@@ -6,7 +6,6 @@ ghost use Rattle.session.specs.Sessions.{IsUncalled};
 use crate::acts::Act;
 use crate::again::{MOST_TRIES, play, say_again};
 use crate::brokers::CLIENTS;
-use anyhow::Result;
 use named::Broker;
 use session::Session;
 use test_support::Wish;
@@ -68,24 +67,24 @@ static CRASH: [(u32, Act); 12] = [
 ];
 
 /// A new broker with so many clients, that nobody has called.
-pub(crate) fn uncalled<R: Print + AllocGlobal>(rt: &R, clients: u32) -> Result<Broker>
+pub(crate) fn uncalled<R: Print + AllocGlobal>(rt: &R, clients: u32) -> Result<Broker, Refusal>
     ensures { IfOk result IsUncalled }
 {
     for _ in 0..MOST_TRIES {
         match Broker::make(rt.alloc(), clients, 6) {
             Ok(broker) => return Ok(broker),
-            Err(_) => say_again(rt, "Broker::make", true)?,
+            Err(_) => say_again(rt, "Broker::make", true),
         }
     }
-    Err(Refusal::NoMemory.into())
+    Err(Refusal::NoMemory)
 }
 
 /// Two sessions.
-pub(crate) fn tell<R: Print + AllocGlobal>(rt: &R) -> Result<()> {
-    println!(rt; "# A session")?;
+pub(crate) fn tell<R: Print + AllocGlobal>(rt: &R) -> Result<(), Refusal> {
+    let _ = println!(rt; "# A session");
     let mut session = Session::open(uncalled(rt, u32::from(CLIENTS))?);
     play(rt, &mut session, &STORY)?;
-    println!(rt; "# Another session")?;
+    let _ = println!(rt; "# Another session");
     let mut session = Session::open(uncalled(rt, u32::from(CLIENTS))?);
     play(rt, &mut session, &CRASH)
 }

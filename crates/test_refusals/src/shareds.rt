@@ -10,7 +10,7 @@ use crate::again::{MOST_TRIES, play, say_again, seen};
 use crate::calls::call;
 use crate::seats::{CLIENT, DURABLE, LOG, all, only, seen_beside};
 use crate::sessions::uncalled;
-use anyhow::Result;
+use arena::SlotId;
 use directory::Name;
 use session::Session;
 use std::marker::Brand;
@@ -39,14 +39,16 @@ enum Part {
     Recover,
     /// A third queue is created.
     Create,
-    /// The histories end.
-    Rotate,
+    /// The histories end, and the queue of a slot begins in fresh records, if one is named.
+    BeginAnew(Option<SlotId>),
     /// What the seat remembers is printed.
     List,
+    /// How full the log queue is, is printed.
+    Usage,
 }
 
 /// The story.
-static PARTS: [Part; 17] = [
+static PARTS: [Part; 27] = [
     Part::Call(Some(1), Wish::Enq(7)),
     Part::Call(Some(2), Wish::Enq(8)),
     Part::Call(None, Wish::Enq(5)),
@@ -61,9 +63,19 @@ static PARTS: [Part; 17] = [
     Part::Call(None, Wish::Deq),
     Part::List,
     Part::Create,
-    Part::Rotate,
+    Part::BeginAnew(None),
+    Part::Call(Some(4), Wish::Enq(9)),
     Part::Call(Some(5), Wish::Deq),
     Part::List,
+    Part::BeginAnew(Some(SlotId(3))),
+    Part::BeginAnew(Some(SlotId(0))),
+    Part::Call(Some(5), Wish::Deq),
+    Part::Call(Some(6), Wish::Enq(6)),
+    Part::Crash,
+    Part::BeginAnew(Some(SlotId(0))),
+    Part::Recover,
+    Part::List,
+    Part::Usage,
 ];
 
 /// A call of the log queue with this number, or of the durable one without.
@@ -95,58 +107,80 @@ fn crash<J: Naming, R: Wait + Print + AllocGlobal>(
     rt: &R,
     shared: &Shared<J>,
     post: &Post<J>,
-) -> Result<()> {
+) -> Result<(), Refusal> {
     for _ in 0..MOST_TRIES {
         let before = seen_beside(rt, shared, &[])?;
         if has_stopped(rt, shared, post) {
-            println!(rt; "everything stops")?;
+            let _ = println!(rt; "everything stops");
             return Ok(());
         }
         let after = seen_beside(rt, shared, &[])?;
-        say_again(rt, "Shared::crash", before.as_str() == after.as_str())?;
+        say_again(rt, "Shared::crash", before.as_str() == after.as_str());
     }
-    Err(Refusal::NoMemory.into())
+    Err(Refusal::NoMemory)
 }
 
 /// Recovers, and prints what the client is told. Where that is refused memory the steps that were made stand: the
 /// broker is still not ready, and the next recovery goes on.
-fn recover<J: Naming, R: Wait + Print + AllocGlobal>(rt: &R, shared: &Shared<J>) -> Result<()> {
+fn recover<J: Naming, R: Wait + Print + AllocGlobal>(
+    rt: &R,
+    shared: &Shared<J>,
+) -> Result<(), Refusal> {
     for _ in 0..MOST_TRIES {
         if shared.recover(rt).0.is_ok() {
             let numbered = shared.told(rt, CLIENT, &Name::make(LOG)?).0?;
             let plain = shared.told(rt, CLIENT, &Name::make(DURABLE)?).0?;
-            println!(rt; "the client is told: {numbered}, {plain}")?;
+            let _ = println!(rt; "the client is told: {numbered}, {plain}");
             return Ok(());
         }
         let is_down = shared.list(rt) == Err(Refusal::NotReady);
-        say_again(rt, "Shared::recover", is_down)?;
+        say_again(rt, "Shared::recover", is_down);
     }
-    Err(Refusal::NoMemory.into())
+    Err(Refusal::NoMemory)
 }
 
-/// Ends the histories.
-fn rotate<J: Naming, R: Wait + Print + AllocGlobal>(
+/// The histories end, and the queue of a slot begins in fresh records, if one is named.
+fn ended<J: Naming, R: Wait>(
+    rt: &R,
+    shared: &Shared<J>,
+    seats: Vec<Seat<J>>,
+    slot: Option<SlotId>,
+) -> (Vec<Seat<J>>, Result<(), Refusal>)
+    requires { AreAllInOrder (λ seat. seat.client) J.clients seats.items }
+    ensures { AreAllInOrder (λ seat. seat.client) J.clients result.0.items }
+{
+    let (seats, receipt) = match slot {
+        Some(slot) => shared.renew(rt, seats, slot),
+        None => shared.rotate(rt, seats),
+    };
+    (seats, receipt.map(|_| ()))
+}
+
+/// Ends the histories, with fresh records or without, and prints whether they ended.
+fn begin_anew<J: Naming, R: Wait + Print + AllocGlobal>(
     rt: &R,
     shared: &Shared<J>,
     seat: Seat<J>,
-) -> Result<Seat<J>>
+    slot: Option<SlotId>,
+) -> Result<Seat<J>, Refusal>
     requires client { seat.client ≡ record { 0 = 0 } }
     requires clients { J.clients ≡ 1 }
     ensures { IfOk result (λ next. next.client ≡ seat.client) }
 {
     let mut seat = seat;
+    let call = slot.map_or("Shared::rotate", |_| "Shared::renew");
     for _ in 0..MOST_TRIES {
         let before = seen_beside(rt, shared, &seat.list)?;
-        let (seats, rotated) = shared.rotate(rt, all(rt, seat)?);
+        let (seats, outcome) = ended(rt, shared, all(rt, seat)?, slot);
         seat = only(seats).ok_or(Refusal::NoClient)?;
-        if rotated.is_ok() {
-            println!(rt; "the histories end")?;
+        if outcome != Err(Refusal::NoMemory) {
+            let _ = println!(rt; "{call} {slot:?}: {outcome:?}");
             return Ok(seat);
         }
         let after = seen_beside(rt, shared, &seat.list)?;
-        say_again(rt, "Shared::rotate", before.as_str() == after.as_str())?;
+        say_again(rt, call, before.as_str() == after.as_str());
     }
-    Err(Refusal::NoMemory.into())
+    Err(Refusal::NoMemory)
 }
 
 /// A gate that stops everything in the middle of a call, once it has made so many steps.
@@ -171,22 +205,35 @@ impl<'a, J: Naming> Gate for Stopping<'a, J> {
 }
 
 /// Prints what the seat remembers.
-fn show_list<J: Naming, R: Print>(rt: &R, seat: &Seat<J>) -> Result<()> {
+fn show_list<J: Naming, R: Print>(rt: &R, seat: &Seat<J>) {
     for entry in seat.list.iter() {
-        println!(rt; "  {entry:?}")?;
+        let _ = println!(rt; "  {entry:?}");
     }
-    Ok(())
+}
+
+/// Prints how full the log queue is.
+fn show_usage<J: Naming, R: Wait + Print>(rt: &R, shared: &Shared<J>) -> Result<(), Refusal> {
+    for _ in 0..MOST_TRIES {
+        match shared.usage(rt, SlotId(0)) {
+            Ok(usage) => {
+                let _ = println!(rt; "{} items, {} records", usage.items, usage.records);
+                return Ok(());
+            }
+            Err(Refusal::NoMemory) => say_again(rt, "Shared::usage", true),
+            Err(refusal) => return Err(refusal),
+        }
+    }
+    Err(Refusal::NoMemory)
 }
 
 /// Creates a third queue.
-fn create<J: Naming, R: Wait + Print>(rt: &R, shared: &Shared<J>) -> Result<()> {
+fn create<J: Naming, R: Wait + Print>(rt: &R, shared: &Shared<J>) {
     let (created, _receipt) = shared.create(rt, b"c", Kind::Log);
-    println!(rt; "a queue: {created:?}")?;
-    Ok(())
+    let _ = println!(rt; "a queue: {created:?}");
 }
 
 /// The seat, once this is done.
-fn kept<J: Naming>(seat: Seat<J>, done: Result<()>) -> Result<Seat<J>>
+fn kept<J: Naming>(seat: Seat<J>, done: Result<(), Refusal>) -> Result<Seat<J>, Refusal>
     ensures { IfOk result (λ next. next.client ≡ seat.client) }
 {
     done?;
@@ -200,7 +247,7 @@ fn play_part<J: Naming, R: Wait + Print + AllocGlobal>(
     post: &Post<J>,
     seat: Seat<J>,
     part: Part,
-) -> Result<Seat<J>>
+) -> Result<Seat<J>, Refusal>
     requires client { seat.client ≡ record { 0 = 0 } }
     requires clients { J.clients ≡ 1 }
     ensures { IfOk result (λ next. next.client ≡ seat.client) }
@@ -217,12 +264,16 @@ fn play_part<J: Naming, R: Wait + Print + AllocGlobal>(
         }
         Part::Crash => kept(seat, crash(rt, shared, post)),
         Part::Recover => kept(seat, recover(rt, shared)),
-        Part::Create => kept(seat, create(rt, shared)),
-        Part::Rotate => rotate(rt, shared, seat),
-        Part::List => {
-            let shown = show_list(rt, &seat);
-            kept(seat, shown)
+        Part::Create => {
+            create(rt, shared);
+            Ok(seat)
         }
+        Part::BeginAnew(slot) => begin_anew(rt, shared, seat, slot),
+        Part::List => {
+            show_list(rt, &seat);
+            Ok(seat)
+        }
+        Part::Usage => kept(seat, show_usage(rt, shared)),
     }
 }
 
@@ -232,7 +283,7 @@ fn play_parts<J: Naming, R: Wait + Print + AllocGlobal>(
     shared: &Shared<J>,
     post: &Post<J>,
     seat: Seat<J>,
-) -> Result<Vec<Seat<J>>>
+) -> Result<Vec<Seat<J>>, Refusal>
     requires client { seat.client ≡ record { 0 = 0 } }
     requires clients { J.clients ≡ 1 }
     ensures { IfOk result (λ seats. AreAllInOrder (λ seat. seat.client) J.clients seats.items) }
@@ -249,17 +300,20 @@ fn close<J: Naming, R: Wait + Print + AllocGlobal>(
     rt: &R,
     shared: Shared<J>,
     seats: Vec<Seat<J>>,
-) -> Result<()>
+) -> Result<(), Refusal>
     requires { AreAllInOrder (λ seat. seat.client) J.clients seats.items }
 {
     let session = shared.close(seats);
     let text = seen(rt.alloc(), &session)?;
-    println!(rt; "{text}")?;
+    let _ = println!(rt; "{text}");
     Ok(())
 }
 
 /// The acts, once the session has its name. Where memory for the seats was refused it is handed back.
-fn acts<J: Naming, R: Wait + Print + AllocGlobal>(rt: &R, opened: Opened) -> Result<Option<Session>>
+fn acts<J: Naming, R: Wait + Print + AllocGlobal>(
+    rt: &R,
+    opened: Opened,
+) -> Result<Option<Session>, Refusal>
     requires { IsNameOf J.roll J.clients J.first opened }
 {
     let (shared, seats, operator) = match opened.named::<J>(rt.alloc()) {
@@ -267,7 +321,7 @@ fn acts<J: Naming, R: Wait + Print + AllocGlobal>(rt: &R, opened: Opened) -> Res
         Err(not) => return Ok(Some(not.session)),
     };
     let Some(seat) = only(seats) else {
-        return Err(Refusal::NoClient.into());
+        return Err(Refusal::NoClient);
     };
     let seats = play_parts(rt, &shared, &Mutex::new(Some(operator)), seat)?;
     close(rt, shared, seats)?;
@@ -275,7 +329,7 @@ fn acts<J: Naming, R: Wait + Print + AllocGlobal>(rt: &R, opened: Opened) -> Res
 }
 
 /// This session, about to be shared.
-fn opened<R: Print + AllocGlobal>(rt: &R, session: Session) -> Result<Opened> {
+fn opened<R: Print + AllocGlobal>(rt: &R, session: Session) -> Result<Opened, Refusal> {
     let mut session = session;
     let before = seen(rt.alloc(), &session)?;
     for _ in 0..MOST_TRIES {
@@ -284,16 +338,16 @@ fn opened<R: Print + AllocGlobal>(rt: &R, session: Session) -> Result<Opened> {
             Err(not) => {
                 session = not.session;
                 let after = seen(rt.alloc(), &session)?;
-                say_again(rt, "Opened::new", before.as_str() == after.as_str())?;
+                say_again(rt, "Opened::new", before.as_str() == after.as_str());
             }
         }
     }
-    Err(Refusal::NoMemory.into())
+    Err(Refusal::NoMemory)
 }
 
 /// A shared session.
-pub(crate) fn tell<R: Wait + Print + AllocGlobal>(rt: &R) -> Result<()> {
-    println!(rt; "# A shared session")?;
+pub(crate) fn tell<R: Wait + Print + AllocGlobal>(rt: &R) -> Result<(), Refusal> {
+    let _ = println!(rt; "# A shared session");
     let mut session = Session::open(uncalled(rt, 1)?);
     play(rt, &mut session, &QUEUES)?;
     let before = seen(rt.alloc(), &session)?;
@@ -304,9 +358,9 @@ pub(crate) fn tell<R: Wait + Print + AllocGlobal>(rt: &R) -> Result<()> {
             Some(back) => {
                 session = back;
                 let after = seen(rt.alloc(), &session)?;
-                say_again(rt, "Opened::named", before.as_str() == after.as_str())?;
+                say_again(rt, "Opened::named", before.as_str() == after.as_str());
             }
         }
     }
-    Err(Refusal::NoMemory.into())
+    Err(Refusal::NoMemory)
 }
