@@ -369,13 +369,18 @@ ends() {
     compare "$1" "$2" "$status" "$work/listening" "$3"
 }
 
-# Sends the file of requests over a connection of its own, and compares the replies: NAME.
+# Sends the file of requests over the connection of a descriptor, and compares the replies: NAME DESCRIPTOR.
+replies_to() {
+    cat "tests/pqd/$1.in" >&"$2"
+    timeout 10 head -n "$(wc -l < "tests/pqd/$1.out")" <&"$2" > "$work/replies" || true
+    judge "$1 over a connection" "$(difference 'the replies' "tests/pqd/$1.out" "$work/replies")"
+}
+
+# The same over a connection of its own: NAME.
 over_connection() {
     exec 3<> "/dev/tcp/127.0.0.1/$port"
-    cat "tests/pqd/$1.in" >&3
-    timeout 10 head -n "$(wc -l < "tests/pqd/$1.out")" <&3 > "$work/replies" || true
+    replies_to "$1" 3
     exec 3>&-
-    judge "$1 over a connection" "$(difference 'the replies' "tests/pqd/$1.out" "$work/replies")"
 }
 
 # Sends a stop over a connection of its own, and compares its reply.
@@ -424,6 +429,24 @@ kill -0 "$server" 2> /dev/null || judge 'an open connection' 'it ended before'
 exec 4>&-
 ends 'serve with an open connection' 0 /dev/null
 cmp -s "$image" "$work/first" || judge 'an open connection' 'the image is another one than that of a pipe'
+
+# A connection that is open when another one accepts a stop is served until it ends, and the image has what it did.
+rm "$image"
+serve --clients 1 --records 2 --image "$image" --workers 2
+exec 4<> "/dev/tcp/127.0.0.1/$port"
+over_connection first-run
+stop
+replies_to second-run 4
+exec 4>&-
+ends 'serve after a stop' 0 /dev/null
+try third-run 0 pipe --image "$image" < tests/pqd/third-run.in
+
+# Ten times as many calls as their client has records. Then it fills the queue, until a renewal would leave it none: it
+# is told NoRoom, and another client's take makes room for its put.
+serve --clients 2 --records 4 --workers 1 --renew
+over_connection beyond-records
+stop
+ends 'serve renewals' 0 /dev/null
 
 # A connection that ends in the middle of a line, or without reading its replies, ends alone. What is said of it on
 # standard error is one line for each, if any.

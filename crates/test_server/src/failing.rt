@@ -4,17 +4,17 @@ ghost use Rattle.std.specs.Prelude.{◌≡◌, refl};
 ghost use Rattle.chronicle.specs.Chronicled.{entries};
 ghost use Rattle.workers.specs.Opening.{IsNameOf};
 
-use crate::playing::{append_line, fresh};
 use crate::slow::{SlowReader, SlowWriter};
 use crate::story::STORY;
 use desk::{BrokerDesk, Seating};
 use devices::{CountedWriter, Failed, FaultyReader, FaultyWriter};
 use engine::{Desk, Failure, serve};
-use server::{JsonLines, pipe};
+use server::{JsonLines, opened, pipe};
 use session::Session;
 use std::alloc::{AllocError, Global};
 use std::io::{self, Write};
 use std::marker::Brand;
+use std::process::Abort;
 use std::sync::Wait;
 use std::test::*;
 use wire::{Answer, Request};
@@ -42,7 +42,8 @@ impl Lines {
     }
 
     fn add(&mut self, line: &str) -> Result<(), AllocError> {
-        append_line(&mut self.bytes, line.as_bytes())?;
+        self.bytes.extend_from_slice(line.as_bytes())?;
+        self.bytes.push(b'\n')?;
         self.ends.push(self.bytes.len())?;
         Ok(())
     }
@@ -54,13 +55,19 @@ impl Lines {
 }
 
 /// The story's requests, and its replies.
-fn story(alloc: Global) -> Result<(Lines, Lines), AllocError> {
+#[derive(Drop)]
+struct Story {
+    requests: Lines,
+    replies: Lines,
+}
+
+fn story(alloc: Global) -> Result<Story, AllocError> {
     let (mut requests, mut replies) = (Lines::new(alloc), Lines::new(alloc));
     for (request, reply) in &STORY {
         requests.add(request)?;
         replies.add(reply)?;
     }
-    Ok((requests, replies))
+    Ok(Story { requests, replies })
 }
 
 /// How many bytes devices give and take before they fail, and at a time; and how often is settled before that fails.
@@ -146,50 +153,90 @@ fn exchanged<J: Naming, T: Wait>(
 
 /// The input served by a new broker of two clients with two records each.
 fn served<T: Wait>(rt: &T, alloc: Global, input: &[u8], limits: Limits) -> Result<Exchange, Fail> {
-    let session = Session::open(fresh(alloc, 2, 2)?);
+    let session = Session::open(opened(alloc, 2, 2, None)?);
     match Opened::new(alloc, session) {
         Ok(opened) => exchanged::<Brand, T>(rt, alloc, opened, input, limits),
         Err(not) => Err(Fail::new(not.refusal)),
     }
 }
 
+/// How much is written: so many bytes of the replies, or so many of them whole.
+#[derive(Clone, Copy)]
+enum Written {
+    Bytes(usize),
+    Replies(usize),
+}
+
+/// How serving is to end, how much is to be written, and how many requests are to be made.
+#[derive(Clone, Copy)]
+struct Wanted {
+    end: Result<(), Failure>,
+    written: Written,
+    made: usize,
+}
+
+/// Whether it went as wanted. What is written is a beginning of the replies.
+fn is_right(replies: &Lines, found: &Exchange, wanted: &Wanted) -> bool {
+    let bytes = found.written.len();
+    let whole = match wanted.written {
+        Written::Bytes(count) => bytes == count,
+        Written::Replies(0) => bytes == 0,
+        Written::Replies(count) => {
+            replies.within(bytes) == count && replies.ends.contains(&bytes)
+        }
+    };
+    whole
+        && replies.bytes.starts_with(found.written.as_slice())
+        && found.end == wanted.end
+        && found.made == wanted.made
+}
+
+/// Serves the story by such devices.
+fn tried<T: Wait + Abort>(
+    rt: &T,
+    alloc: Global,
+    story: &Story,
+    limits: Limits,
+    wanted: Wanted,
+) -> Result<(), Fail> {
+    let found = served(rt, alloc, story.requests.bytes.as_slice(), limits)?;
+    assert!(rt; is_right(&story.replies, &found, &wanted), "{limits:?}");
+    Ok(())
+}
+
+/// Devices that neither fail nor are slow.
+const SOUND: Limits = Limits {
+    readable: usize::MAX,
+    writable: usize::MAX,
+    each: usize::MAX,
+    settled: usize::MAX,
+};
+
 #[test]
 fn a_byte_at_a_time(rt: HostRuntime) -> Result<(), Fail> {
-    let (requests, replies) = story(rt.alloc())?;
-    assert_eq!(rt; requests.bytes.len(), REQUEST_BYTES);
-    assert_eq!(rt; replies.bytes.len(), REPLY_BYTES);
-    let limits = Limits {
-        readable: usize::MAX,
-        writable: usize::MAX,
-        each: 1,
-        settled: usize::MAX,
+    let story = story(rt.alloc())?;
+    assert_eq!(rt; story.requests.bytes.len(), REQUEST_BYTES);
+    let limits = Limits { each: 1, ..SOUND };
+    let wanted = Wanted {
+        end: Ok(()),
+        written: Written::Bytes(REPLY_BYTES),
+        made: STORY.len(),
     };
-    let found = served(&rt, rt.alloc(), requests.bytes.as_slice(), limits)?;
-    assert!(rt; found.end == Ok(()));
-    assert!(rt; found.written.as_slice() == replies.bytes.as_slice());
-    assert_eq!(rt; found.made, STORY.len());
-    Ok(())
+    tried(&rt, rt.alloc(), &story, limits, wanted)
 }
 
 /// All lines come at once, so all requests are made before their replies go. A flush fails where all bytes were taken.
 #[test]
 fn a_writer_fails_after_each_byte(rt: HostRuntime) -> Result<(), Fail> {
-    let (requests, replies) = story(rt.alloc())?;
+    let story = story(rt.alloc())?;
     for writable in 0..=REPLY_BYTES {
-        let limits = Limits {
-            readable: usize::MAX,
-            writable,
-            each: usize::MAX,
-            settled: usize::MAX,
+        let limits = Limits { writable, ..SOUND };
+        let wanted = Wanted {
+            end: Err(Failure::WriteFailed),
+            written: Written::Bytes(writable),
+            made: STORY.len(),
         };
-        let found = served(&rt, rt.alloc(), requests.bytes.as_slice(), limits)?;
-        assert!(rt; found.end == Err(Failure::WriteFailed), "{writable}");
-        assert_eq!(rt; found.written.len(), writable);
-        assert!(rt;
-            replies.bytes.starts_with(found.written.as_slice()),
-            "{writable}"
-        );
-        assert_eq!(rt; found.made, STORY.len(), "{writable}");
+        tried(&rt, rt.alloc(), &story, limits, wanted)?;
     }
     Ok(())
 }
@@ -197,54 +244,53 @@ fn a_writer_fails_after_each_byte(rt: HostRuntime) -> Result<(), Fail> {
 /// Each line comes by itself, so its reply goes before the next request is made.
 #[test]
 fn a_slow_writer_fails_after_each_byte(rt: HostRuntime) -> Result<(), Fail> {
-    let (requests, replies) = story(rt.alloc())?;
+    let story = story(rt.alloc())?;
     for writable in 1..=REPLY_BYTES {
         let limits = Limits {
-            readable: usize::MAX,
             writable,
             each: 1,
-            settled: usize::MAX,
+            ..SOUND
         };
-        let found = served(&rt, rt.alloc(), requests.bytes.as_slice(), limits)?;
-        assert!(rt; found.end == Err(Failure::WriteFailed), "{writable}");
-        assert_eq!(rt; found.written.len(), writable);
-        assert!(rt;
-            replies.bytes.starts_with(found.written.as_slice()),
-            "{writable}"
-        );
-        let whole = replies.within(writable.saturating_sub(1));
-        assert_eq!(rt; found.made, whole.saturating_add(1), "{writable}");
+        let whole = story.replies.within(writable.saturating_sub(1));
+        let wanted = Wanted {
+            end: Err(Failure::WriteFailed),
+            written: Written::Bytes(writable),
+            made: whole.saturating_add(1),
+        };
+        tried(&rt, rt.alloc(), &story, limits, wanted)?;
     }
     Ok(())
 }
 
 /// Whatever was read of a line that did not end, it is not served.
+fn tried_readers<T: Wait + Abort>(
+    rt: &T,
+    alloc: Global,
+    story: &Story,
+    each: usize,
+) -> Result<(), Fail> {
+    for readable in 0..=REQUEST_BYTES {
+        let limits = Limits {
+            readable,
+            each,
+            ..SOUND
+        };
+        let lines = story.requests.within(readable);
+        let wanted = Wanted {
+            end: Err(Failure::ReadFailed),
+            written: Written::Replies(lines),
+            made: lines,
+        };
+        tried(rt, alloc, story, limits, wanted)?;
+    }
+    Ok(())
+}
+
 #[test]
 fn a_reader_fails_after_each_byte(rt: HostRuntime) -> Result<(), Fail> {
-    let (requests, replies) = story(rt.alloc())?;
-    for readable in 0..=REQUEST_BYTES {
-        for each in [1, 7, usize::MAX] {
-            let limits = Limits {
-                readable,
-                writable: usize::MAX,
-                each,
-                settled: usize::MAX,
-            };
-            let found = served(&rt, rt.alloc(), requests.bytes.as_slice(), limits)?;
-            let lines = requests.within(readable);
-            assert!(rt; found.end == Err(Failure::ReadFailed), "{limits:?}");
-            assert_eq!(rt; found.made, lines, "{limits:?}");
-            assert!(rt;
-                replies.bytes.starts_with(found.written.as_slice()),
-                "{limits:?}"
-            );
-            assert_eq!(rt; replies.within(found.written.len()), lines, "{limits:?}");
-            let ends = replies.ends.contains(&found.written.len());
-            assert!(rt;
-                ends || lines == 0 && found.written.is_empty(),
-                "{limits:?}"
-            );
-        }
+    let story = story(rt.alloc())?;
+    for each in [1, 7, usize::MAX] {
+        tried_readers(&rt, rt.alloc(), &story, each)?;
     }
     Ok(())
 }
@@ -253,22 +299,19 @@ fn a_reader_fails_after_each_byte(rt: HostRuntime) -> Result<(), Fail> {
 /// of it is written.
 #[test]
 fn a_desk_fails_after_each_settle(rt: HostRuntime) -> Result<(), Fail> {
-    let (requests, replies) = story(rt.alloc())?;
+    let story = story(rt.alloc())?;
     for settled in 0..STORY.len() {
         let limits = Limits {
-            readable: usize::MAX,
-            writable: usize::MAX,
             each: 1,
             settled,
+            ..SOUND
         };
-        let found = served(&rt, rt.alloc(), requests.bytes.as_slice(), limits)?;
-        assert!(rt; found.end == Err(Failure::NotKept), "{settled}");
-        assert_eq!(rt; found.made, settled.saturating_add(1));
-        assert!(rt;
-            replies.bytes.starts_with(found.written.as_slice()),
-            "{settled}"
-        );
-        assert_eq!(rt; replies.within(found.written.len()), settled);
+        let wanted = Wanted {
+            end: Err(Failure::NotKept),
+            written: Written::Replies(settled),
+            made: settled.saturating_add(1),
+        };
+        tried(&rt, rt.alloc(), &story, limits, wanted)?;
     }
     Ok(())
 }
@@ -287,25 +330,28 @@ impl Write for Full {
     }
 }
 
+/// How many bytes of the story a pipe reads, how many it writes, and why it ends.
+static PIPES: [(usize, usize, Refusal); 3] = [
+    (50, usize::MAX, Refusal::ReadFailed),
+    (usize::MAX, 30, Refusal::WriteFailed),
+    // Both would fail: the reply goes before more is read.
+    (50, 28, Refusal::WriteFailed),
+];
+
 #[test]
 fn a_pipe_that_fails_leaves_no_image(rt: HostRuntime) -> Result<(), Fail> {
     let alloc = rt.alloc();
-    let (requests, _) = story(alloc)?;
-    let cases = [
-        (50, usize::MAX, Refusal::ReadFailed),
-        (usize::MAX, 30, Refusal::WriteFailed),
-        // Both would fail: the reply goes before more is read.
-        (50, 28, Refusal::WriteFailed),
-    ];
-    for (readable, writable, wanted) in cases {
-        let mut reader = FaultyReader::new(requests.bytes.as_slice(), readable);
-        let mut writer = FaultyWriter::new(alloc, writable);
-        let left = pipe(&rt, alloc, fresh(alloc, 2, 2)?, &mut reader, &mut writer);
-        assert!(rt; left.err() == Some(wanted), "{readable} {writable}");
+    let story = story(alloc)?;
+    let requests = story.requests.bytes.as_slice();
+    for (readable, writable, wanted) in &PIPES {
+        let mut reader = FaultyReader::new(requests, *readable);
+        let mut writer = FaultyWriter::new(alloc, *writable);
+        let left = pipe(&rt, alloc, opened(alloc, 2, 2, None)?, &mut reader, &mut writer);
+        assert!(rt; left.err() == Some(*wanted), "{readable} {writable}");
     }
-    let mut reader = FaultyReader::new(requests.bytes.as_slice(), usize::MAX);
+    let mut reader = FaultyReader::new(requests, usize::MAX);
     let mut writer = CountedWriter::new(Full);
-    let left = pipe(&rt, alloc, fresh(alloc, 2, 2)?, &mut reader, &mut writer);
+    let left = pipe(&rt, alloc, opened(alloc, 2, 2, None)?, &mut reader, &mut writer);
     assert!(rt; left.err() == Some(Refusal::WriteFailed));
     Ok(())
 }

@@ -3,11 +3,10 @@
 ghost use Rattle.std.specs.Prelude.{◌≡◌};
 ghost use Rattle.workers.specs.Opening.{IsNameOf};
 
-use crate::patience::{TURNS, rest};
-use crate::playing::fresh;
 use desk::{BrokerDesk, Seating};
 use directory::Name;
 use engine::Desk;
+use server::opened;
 use session::Session;
 use std::alloc::Global;
 use std::marker::Brand;
@@ -15,8 +14,8 @@ use std::process::Abort;
 use std::sync::Wait;
 use std::sync::atomic::{AtomicU64, Ordering};
 use std::test::*;
-use std::thread::{Threads, map_indices};
-use std::time::Clock;
+use std::thread::{Threads, map_indices, sleep};
+use std::time::{Clock, Duration};
 use test_support::item;
 use wire::{Answer, Request};
 use words::{Kind, Refusal, Reply};
@@ -34,6 +33,9 @@ const ROUNDS: u32 = 100;
 
 /// How many records the client has.
 const RECORDS: u32 = 4_096;
+
+/// How many turns of a millisecond a connection waits at most.
+const TURNS: u32 = 10_000;
 
 /// How many connections are there, and how the puts of all were answered.
 #[derive(Drop)]
@@ -56,7 +58,7 @@ fn wait_for_all<C: Clock>(clock: &C, there: &AtomicU64) {
         if there.load(Ordering::SeqCst) == CONNECTIONS as u64 {
             return;
         }
-        rest(clock, 1);
+        sleep(clock, Duration::from_millis(1));
     }
 }
 
@@ -145,7 +147,7 @@ fn is_found_in_use<R: Threads + Wait + Clock + Abort + Sync>(
         busy: AtomicU64::new(0),
         other: AtomicU64::new(0),
     };
-    let session = Session::open(fresh(alloc, 2, RECORDS)?);
+    let session = Session::open(opened(alloc, 2, RECORDS, None)?);
     let Ok(opened) = Opened::new(alloc, session) else {
         return Err(Fail::new("it is in use"));
     };

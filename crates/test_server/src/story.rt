@@ -1,7 +1,8 @@
 //! A story of two clients with two records each: numbers that are sent again, a crash, and what is refused. It is that
 //! of tests/pqd/story.in.
 
-use crate::playing::Row;
+/// A request line and its reply line.
+pub(crate) type Row = (&'static str, &'static str);
 
 pub(crate) static STORY: [Row; 15] = [
     (
