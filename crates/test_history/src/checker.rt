@@ -1,12 +1,34 @@
 //! Histories written out, with the orders that explain them and some that do not: what the definition means.
 
-use history::{Entry, Event, History, Order, Sequence, check, check_plainly, replay};
+use crate::rows::{Case, HISTORIES, Left, Placed, REPLAYED, REPLAYS, Seen, Telling};
+use history::{Entry, Event, Events, History, Order, Sequence, check, check_plainly, replay};
 use std::alloc::{AllocError, Global};
 use std::test::Fail;
-use test_support::{events_of, item};
-use words::{Call, Client, Outcome, Reply, Row, Told, Value, Verdict};
+use test_support::{are_items, item};
+use words::{Call, Client, Outcome, Row, Told, Value, Verdict};
 
-const NONE: [Told; 16] = [Told::None; 16];
+impl Telling {
+    fn told(self) -> Told {
+        let verdict = |number, outcome| Told::Verdict(Verdict { number, outcome });
+        match self {
+            Telling::Nothing => Told::None,
+            Telling::NotTaken(number) => verdict(number, Outcome::NotTaken),
+            Telling::Taken(number, said) => verdict(number, Outcome::Taken(said.reply())),
+            Telling::NoCall => Told::Row(Row::NoCall),
+            Telling::Open => Told::Row(Row::Open),
+            Telling::Empty => Told::Row(Row::Empty),
+            Telling::Got(value) => Told::Row(Row::Got(item(value))),
+        }
+    }
+}
+
+/// What clients 0 and 1 are told; the others are told nothing.
+fn told_by(tellings: (Telling, Telling)) -> [Told; 16] {
+    let mut told = [Told::None; 16];
+    told[0] = tellings.0.told();
+    told[1] = tellings.1.told();
+    told
+}
 
 fn call(client: u8, number: u64, call: Call) -> Event {
     Event::Call {
@@ -16,302 +38,108 @@ fn call(client: u8, number: u64, call: Call) -> Event {
     }
 }
 
-fn enq(client: u8, value: u32) -> Event {
-    call(client, 0, Call::Enq(item(value)))
-}
-
-fn deq(client: u8) -> Event {
-    call(client, 0, Call::Deq)
-}
-
-fn returns(client: u8, reply: Reply) -> Event {
-    Event::Return {
-        client: Client(client),
-        reply,
+impl Seen {
+    fn event(&self) -> Event {
+        match *self {
+            Seen::Put(client, number, value) => call(client, number, Call::Enq(item(value))),
+            Seen::Take(client, number) => call(client, number, Call::Deq),
+            Seen::Return(client, said) => Event::Return {
+                client: Client(client),
+                reply: said.reply(),
+            },
+            Seen::Crash => Event::Crash,
+            Seen::Ready(zero, one) => Event::Ready {
+                told: told_by((zero, one)),
+            },
+        }
     }
-}
-
-fn done(client: u8) -> Event {
-    returns(client, Reply::Done)
-}
-
-fn got(value: u32) -> Reply {
-    Reply::Got(item(value))
-}
-
-fn verdict(number: u64, outcome: Outcome) -> Told {
-    Told::Verdict(Verdict { number, outcome })
-}
-
-fn ready(first: &Told) -> Event {
-    let mut told = NONE;
-    told[0] = *first;
-    Event::Ready { told }
-}
-
-fn at(place: usize, reply: Reply) -> Entry {
-    Entry { place, reply }
-}
-
-fn put_at(place: usize) -> Entry {
-    at(place, Reply::Done)
-}
-
-fn got_at(place: usize, value: u32) -> Entry {
-    at(place, got(value))
 }
 
 fn history(
     alloc: Global,
-    base: &[Value],
-    first: Told,
-    events: &[Event],
+    base: &[u32],
+    first: Telling,
+    seen: &[Seen],
 ) -> Result<History, AllocError> {
-    let mut told = NONE;
-    told[0] = first;
+    let mut values: Vec<Value> = Vec::new(alloc);
+    for value in base {
+        values.push(item(*value))?;
+    }
+    let mut events = Events::new(alloc);
+    for one in seen {
+        events.reserve(1)?;
+        events.push(one.event());
+    }
     Ok(History {
-        base: Sequence::from_vec(base.to_vec(alloc)?),
-        told,
-        events: events_of(alloc, events)?,
+        base: Sequence::from_vec(values),
+        told: told_by((first, Telling::Nothing)),
+        events,
     })
 }
 
-fn order(alloc: Global, entries: &[Entry]) -> Result<Order, AllocError> {
+fn order(alloc: Global, placed: &[Placed]) -> Result<Order, AllocError> {
+    let mut entries = Vec::new(alloc);
+    for (place, said) in placed {
+        entries.push(Entry {
+            place: *place,
+            reply: said.reply(),
+        })?;
+    }
     Ok(Order {
-        entries: Sequence::from_vec(entries.to_vec(alloc)?),
+        entries: Sequence::from_vec(entries),
     })
 }
 
-/// Whether, by both checkers, each order of the first list explains the events, and none of the second does. The base
-/// tells client 0 this.
-fn judge(
+/// Whether both checkers answer this of each order.
+fn are_all(
     alloc: Global,
-    (base, first): (&[Value], Told),
-    events: &[Event],
-    right: &[&[Entry]],
-    wrong: &[&[Entry]],
+    history: &History,
+    orders: &[&[Placed]],
+    wanted: bool,
 ) -> Result<bool, AllocError> {
-    let history = history(alloc, base, first, events)?;
-    let mut judged = true;
-    for entries in right {
-        let order = order(alloc, entries)?;
-        judged &= check(&history, &order) && check_plainly(&history, &order);
+    let mut all = true;
+    for placed in orders {
+        let order = order(alloc, placed)?;
+        all &= check(history, &order) == wanted && check_plainly(history, &order) == wanted;
     }
-    for entries in wrong {
-        let order = order(alloc, entries)?;
-        judged &= !check(&history, &order) && !check_plainly(&history, &order);
-    }
-    Ok(judged)
+    Ok(all)
 }
 
-/// The same, where the base tells nothing.
-fn says(
+/// Whether each order that is right explains the history, and none that is wrong does.
+fn is_judged(alloc: Global, case: &Case) -> Result<bool, AllocError> {
+    let history = history(alloc, case.base, case.first, case.seen)?;
+    Ok(are_all(alloc, &history, case.right, true)? && are_all(alloc, &history, case.wrong, false)?)
+}
+
+#[test]
+fn orders_explain_histories(rt: HostRuntime) -> Result<(), Fail> {
+    for case in &HISTORIES {
+        assert!(rt; is_judged(rt.alloc(), case)?, "{}", case.what);
+    }
+    Ok(())
+}
+
+/// Whether the replay of an order leaves this.
+fn is_left(
     alloc: Global,
-    base: &[Value],
-    events: &[Event],
-    right: &[&[Entry]],
-    wrong: &[&[Entry]],
-) -> Result<bool, AllocError> {
-    judge(alloc, (base, Told::None), events, right, wrong)
+    history: &History,
+    placed: &[Placed],
+    left: &Left,
+) -> Result<bool, Fail> {
+    let order = order(alloc, placed)?;
+    let replayed = replay(alloc, history, &order)?;
+    Ok(match (&replayed, left) {
+        (Ok(values), Left::Values(wanted)) => are_items(values.as_slice(), wanted),
+        (Err(entry), Left::WrongAt(wanted)) => entry == wanted,
+        (Ok(_), Left::WrongAt(_)) | (Err(_), Left::Values(_)) => false,
+    })
 }
 
 #[test]
-fn complete_calls_are_in_the_order(rt: HostRuntime) -> Result<(), Fail> {
-    let a = rt.alloc();
-    let events = [deq(0), returns(0, got(5))];
-    let right: [&[Entry]; 1] = [&[got_at(0, 5)]];
-    let not: [&[Entry]; 4] = [
-        &[],
-        &[got_at(0, 5), got_at(0, 5)],
-        &[got_at(1, 5)],
-        &[got_at(2, 5)],
-    ];
-    assert!(rt; says(a, &[item(5)], &events, &right, &not)?);
-    assert!(rt; says(a, &[item(5), item(5)], &events, &right, &not)?);
-    let other = [deq(0), returns(0, got(6))];
-    assert!(rt; says(a, &[item(5)], &other, &[], &right)?);
-    Ok(())
-}
-
-#[test]
-fn precedence_is_kept(rt: HostRuntime) -> Result<(), Fail> {
-    let a = rt.alloc();
-    let one_by_one = [enq(0, 1), done(0), enq(1, 2), done(1)];
-    let right: [&[Entry]; 1] = [&[put_at(0), put_at(2)]];
-    let wrong: [&[Entry]; 1] = [&[put_at(2), put_at(0)]];
-    assert!(rt; says(a, &[], &one_by_one, &right, &wrong)?);
-    let overlap = [enq(0, 1), enq(1, 2), done(0), done(1)];
-    let both: [&[Entry]; 2] = [&[put_at(0), put_at(1)], &[put_at(1), put_at(0)]];
-    assert!(rt; says(a, &[], &overlap, &both, &[])?);
-    Ok(())
-}
-
-#[test]
-fn the_plain_queue_gives_the_replies(rt: HostRuntime) -> Result<(), Fail> {
-    let a = rt.alloc();
-    let later = [deq(0), returns(0, got(7)), enq(1, 7), done(1)];
-    let not: [&[Entry]; 2] = [&[got_at(0, 7), put_at(2)], &[put_at(2), got_at(0, 7)]];
-    assert!(rt; says(a, &[], &later, &[], &not)?);
-    let empties = [
-        deq(0),
-        deq(1),
-        returns(0, Reply::Empty),
-        enq(2, 5),
-        done(2),
-        returns(1, Reply::Empty),
-    ];
-    let (one, other) = (|| at(0, Reply::Empty), || at(1, Reply::Empty));
-    let right: [&[Entry]; 2] = [&[one(), other(), put_at(3)], &[other(), one(), put_at(3)]];
-    let wrong: [&[Entry]; 2] = [&[one(), put_at(3), other()], &[put_at(3), one(), other()]];
-    assert!(rt; says(a, &[], &empties, &right, &wrong)?);
-    Ok(())
-}
-
-#[test]
-fn verdicts_agree_with_the_order(rt: HostRuntime) -> Result<(), Fail> {
-    let a = rt.alloc();
-    let told = |first: Told| [call(0, 1, Call::Enq(item(9))), Event::Crash, ready(&first)];
-    let (none, taken): ([Entry; 0], [Entry; 1]) = ([], [put_at(0)]);
-    for first in [verdict(1, Outcome::NotTaken), Told::None] {
-        assert!(rt; says(a, &[], &told(first), &[&none], &[&taken])?);
+fn a_replay_leaves_the_queue(rt: HostRuntime) -> Result<(), Fail> {
+    let history = history(rt.alloc(), &[8, 9], Telling::Nothing, &REPLAYED)?;
+    for (placed, left) in &REPLAYS {
+        assert!(rt; is_left(rt.alloc(), &history, placed, left)?);
     }
-    let done = verdict(1, Outcome::Taken(Reply::Done));
-    assert!(rt; says(a, &[], &told(done), &[&taken], &[&none])?);
-    for outcome in [Outcome::Taken(Reply::Done), Outcome::NotTaken] {
-        assert!(rt; says(a, &[], &told(verdict(2, outcome)), &[], &[&none, &taken])?);
-    }
-    Ok(())
-}
-
-#[test]
-fn verdicts_are_of_the_last_call(rt: HostRuntime) -> Result<(), Fail> {
-    let a = rt.alloc();
-    let both = [put_at(0), put_at(2)];
-    let told = |number: u64| [
-        call(0, 1, Call::Enq(item(1))),
-        done(0),
-        call(0, 2, Call::Enq(item(2))),
-        done(0),
-        Event::Crash,
-        ready(&verdict(number, Outcome::Taken(Reply::Done))),
-    ];
-    assert!(rt; says(a, &[], &told(2), &[&both], &[])?);
-    assert!(rt; says(a, &[], &told(1), &[], &[&both])?);
-    Ok(())
-}
-
-#[test]
-fn an_interrupted_call_is_in_the_order_where_it_is_told(rt: HostRuntime) -> Result<(), Fail> {
-    let a = rt.alloc();
-    let mut told = NONE;
-    told[0] = verdict(1, Outcome::NotTaken);
-    told[1] = verdict(1, Outcome::Taken(Reply::Done));
-    let events = [
-        call(0, 1, Call::Enq(item(1))),
-        call(1, 1, Call::Enq(item(2))),
-        Event::Crash,
-        Event::Ready { told },
-        call(0, 2, Call::Deq),
-        returns(0, got(2)),
-    ];
-    let right: [&[Entry]; 1] = [&[put_at(1), got_at(4, 2)]];
-    let wrong: [&[Entry]; 2] = [
-        &[got_at(4, 2), put_at(1)],
-        &[put_at(1), put_at(0), got_at(4, 2)],
-    ];
-    assert!(rt; says(a, &[], &events, &right, &wrong)?);
-    // Nor is a call that is in no verdict, though it would explain the reply.
-    let untold = [
-        call(1, 1, Call::Enq(item(2))),
-        Event::Crash,
-        ready(&Told::None),
-        call(2, 1, Call::Deq),
-        returns(2, got(2)),
-    ];
-    let both: [&[Entry]; 1] = [&[put_at(0), got_at(3, 2)]];
-    assert!(rt; says(a, &[], &untold, &[], &both)?);
-    assert!(rt; says(a, &[item(2)], &untold, &[&[got_at(3, 2)]], &both)?);
-    Ok(())
-}
-
-#[test]
-fn rows_tell_of_dequeues(rt: HostRuntime) -> Result<(), Fail> {
-    let a = rt.alloc();
-    let told = |row: Row| [
-        deq(0),
-        returns(0, Reply::Empty),
-        enq(0, 3),
-        Event::Crash,
-        ready(&Told::Row(row)),
-    ];
-    let right: [&[Entry]; 2] = [&[at(0, Reply::Empty)], &[at(0, Reply::Empty), put_at(2)]];
-    assert!(rt; says(a, &[], &told(Row::Empty), &right, &[])?);
-    for row in [Row::Open, Row::NoCall, Row::Got(item(3))] {
-        assert!(rt; says(a, &[], &told(row), &[], &[&[at(0, Reply::Empty)]])?);
-    }
-    let open = [deq(0), Event::Crash, ready(&Told::Row(Row::Open))];
-    assert!(rt; says(a, &[item(4)], &open, &[&[]], &[&[got_at(0, 4)]])?);
-    Ok(())
-}
-
-#[test]
-fn the_base_tells_until_a_call_is_taken(rt: HostRuntime) -> Result<(), Fail> {
-    let a = rt.alloc();
-    let old = verdict(7, Outcome::Taken(Reply::Done));
-    let events = [
-        Event::Crash,
-        ready(&old),
-        call(0, 8, Call::Deq),
-        Event::Crash,
-        Event::Crash,
-        ready(&old),
-    ];
-    let taken = [at(2, Reply::Empty)];
-    assert!(rt; judge(a, (&[], old), &events, &[&[]], &[&taken])?);
-    assert!(rt; says(a, &[], &events, &[], &[&[]])?);
-    Ok(())
-}
-
-#[test]
-fn nobody_calls_or_returns_out_of_turn(rt: HostRuntime) -> Result<(), Fail> {
-    let a = rt.alloc();
-    let none = || ready(&Told::None);
-    let idle = [none(), Event::Crash, Event::Crash, none(), none()];
-    let arising: [&[Event]; 3] = [&[], &idle, &[enq(15, 1)]];
-    for events in arising {
-        assert!(rt; says(a, &[], events, &[&[]], &[])?, "{events:?}");
-    }
-    let not: [&[Event]; 7] = [
-        &[enq(0, 1), enq(0, 2)],
-        &[enq(0, 1), call(1, 1, Call::Enq(item(2)))],
-        &[enq(16, 1)],
-        &[done(0)],
-        &[Event::Crash, enq(0, 1)],
-        &[enq(0, 1), Event::Crash, done(0)],
-        &[enq(0, 1), Event::Crash, none(), done(0)],
-    ];
-    let taken = [put_at(0)];
-    for events in not {
-        assert!(rt; says(a, &[], events, &[], &[&[], &taken])?, "{events:?}");
-    }
-    let ready_before = [enq(0, 1), none(), done(0)];
-    assert!(rt; says(a, &[], &ready_before, &[&taken], &[&[]])?);
-    Ok(())
-}
-
-#[test]
-fn replay_leaves_the_queue(rt: HostRuntime) -> Result<(), Fail> {
-    let a = rt.alloc();
-    let events = [enq(0, 1), deq(1), enq(2, 2), Event::Crash];
-    let history = history(a, &[item(8), item(9)], Told::None, &events)?;
-    let right = order(a, &[put_at(0), got_at(1, 8), put_at(2)])?;
-    let Ok(values) = replay(a, &history, &right)? else {
-        return Err(Fail::new("every entry is right"));
-    };
-    assert_eq!(rt; values.as_slice(), [item(9), item(1), item(2)].as_slice());
-    let wrong = order(a, &[put_at(0), got_at(1, 9), put_at(2)])?;
-    assert_eq!(rt; replay(a, &history, &wrong)?.err(), Some(1));
-    let none = order(a, &[put_at(0), got_at(1, 8), put_at(3)])?;
-    assert_eq!(rt; replay(a, &history, &none)?.err(), Some(2));
     Ok(())
 }

@@ -1,7 +1,7 @@
-//! What the checker of histories answers, of histories written out, and of drawn ones, where its plain twin agrees.
+//! What the checkers of histories answer of histories that are written out.
 #![tactic(auto)]
 
 #[cfg(test)]
 mod checker;
 #[cfg(test)]
-mod drawn;
+mod rows;

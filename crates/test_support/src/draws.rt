@@ -14,13 +14,3 @@ pub fn below(rng: &mut Pcg32, n: u32) -> u32
     }
     rng.next_u32() % n
 }
-
-/// The same of places: an index below `n`, which fits 32 bits, or 0.
-pub fn index_below(rng: &mut Pcg32, n: usize) -> usize
-    ensures { 0 < n → result < n }
-{
-    if n == 0 {
-        return 0;
-    }
-    rng.next_u32() as usize % n
-}

@@ -14,7 +14,7 @@ pub mod sessions;
 pub mod steps;
 
 use arena::{SLOTS, SlotId};
-pub use draws::{below, index_below};
+pub use draws::below;
 use history::{Event, Events, check_content};
 pub use items::{Said, Wish, are_items, item, number_of};
 use named::Broker;
