@@ -1,7 +1,8 @@
 //! The verdict on a recording.
 
+use answers::{Answer, Watch, answer_of};
 use options::CheckOptions;
-use recording::{Answer, Fault, Recording, Watch, answer_of, read};
+use recording::{Fault, Recording, read};
 use std::alloc::AllocError;
 use std::io::{IsTerminal, Read, Write};
 use std::process::ExitCode;

@@ -1,7 +1,8 @@
 //! The recording as a page: one HTML file with a picture, a lane for each client and a bar for each call.
 
+use answers::{Answer, Explanation, Prefix, prefix_of};
 use findings::{Lack, Witness};
-use recording::{Act, Answer, Explanation, Prefix, Recording, Said, prefix_of, shown};
+use recording::{Act, Recording, Said, shown};
 use std::alloc::{AllocError, Global};
 use std::fmt::Write;
 
@@ -236,26 +237,28 @@ impl<'a> Page<'a> {
         self.escaped(text.as_str())
     }
 
+    /// The name of a client.
+    fn name(&mut self, client: usize, json: &str) -> Result<(), AllocError> {
+        let y = down(client);
+        let middle = y.saturating_add(19);
+        write!(
+            self.text,
+            "<line class=\"rule\" x1=\"0\" x2=\"{NAMES}\" y1=\"{y}\" y2=\"{y}\"/>\n\
+             <text class=\"label\" x=\"0\" y=\"{middle}\">"
+        )?;
+        let text = shown(self.alloc, json)?;
+        self.escaped(text.as_str())?;
+        self.text.push_str("</text>\n")
+    }
+
     /// The names of the clients, which stay where they are while the rest is scrolled.
     fn names(&mut self, high: usize) -> Result<(), AllocError> {
         write!(
             self.text,
             "<svg class=\"names\" width=\"{NAMES}\" height=\"{high}\">\n"
         )?;
-        for client in 0..self.recording.clients.len() {
-            let y = down(client);
-            let middle = y.saturating_add(19);
-            write!(
-                self.text,
-                "<line class=\"rule\" x1=\"0\" x2=\"{NAMES}\" y1=\"{y}\" y2=\"{y}\"/>\n"
-            )?;
-            write!(self.text, "<text class=\"label\" x=\"0\" y=\"{middle}\">")?;
-            let text = match self.recording.clients.get(client) {
-                Some(text) => shown(self.alloc, text.as_str())?,
-                None => String::new(self.alloc),
-            };
-            self.escaped(text.as_str())?;
-            self.text.push_str("</text>\n")?;
+        for (client, json) in self.recording.clients.iter().enumerate() {
+            self.name(client, json.as_str())?;
         }
         self.text.push_str("</svg>\n")
     }
@@ -452,6 +455,36 @@ impl<'a> Page<'a> {
         self.lanes(end)?;
         self.bars()
     }
+
+    /// The picture, with what the answer says.
+    fn judged(&mut self, answer: &Answer) -> Result<(), AllocError> {
+        match answer {
+            Answer::Explained(prefix, explanation) => {
+                self.picture()?;
+                self.effects(prefix, explanation)
+            }
+            Answer::Impossible(prefix, refutation, before) => {
+                self.name_all(prefix, &refutation.witness);
+                self.picture()?;
+                let last = prefix.count.saturating_sub(1);
+                self.effects(&prefix_of(self.alloc, self.recording, last)?, before)?;
+                self.line_across("limit", last)
+            }
+            Answer::Unknown => self.picture(),
+        }
+    }
+
+    /// The whole page.
+    fn write(&mut self, answer: &Answer, verdict: &str) -> Result<(), AllocError> {
+        self.text.push_str("<pre>")?;
+        self.escaped(verdict)?;
+        self.text.push_str("</pre>\n")?;
+        if let Answer::Impossible(..) = answer {
+            self.text.push_str(TO_THE_LIMIT)?;
+        }
+        self.judged(answer)?;
+        self.text.push_str(FOOT)
+    }
 }
 
 /// The page of a recording, with what the verdict says.
@@ -463,26 +496,6 @@ pub fn page_of(
 ) -> Result<String, AllocError> {
     let mut page = Page::new(alloc, recording)?;
     page.find_ends();
-    page.text.push_str("<pre>")?;
-    page.escaped(verdict)?;
-    page.text.push_str("</pre>\n")?;
-    if let Answer::Impossible(..) = answer {
-        page.text.push_str(TO_THE_LIMIT)?;
-    }
-    match answer {
-        Answer::Explained(prefix, explanation) => {
-            page.picture()?;
-            page.effects(prefix, explanation)?;
-        }
-        Answer::Impossible(prefix, refutation, before) => {
-            page.name_all(prefix, &refutation.witness);
-            page.picture()?;
-            let last = prefix.count.saturating_sub(1);
-            page.effects(&prefix_of(alloc, recording, last)?, before)?;
-            page.line_across("limit", last)?;
-        }
-        Answer::Unknown => page.picture()?,
-    }
-    page.text.push_str(FOOT)?;
+    page.write(answer, verdict)?;
     Ok(page.text)
 }

@@ -1,8 +1,9 @@
 //! The verdict as text.
 
+use answers::{Answer, Prefix};
 use events::Entry;
 use findings::{Lack, Piece, Since, Witness, rank_of};
-use recording::{Act, Answer, Prefix, Recording, Said, shown};
+use recording::{Act, Recording, Said, shown};
 use seeking::{Known, KnownCall};
 use std::alloc::{AllocError, Global};
 use std::fmt::Write;
@@ -19,6 +20,8 @@ struct Pen<'a> {
     /// The values as they were put.
     values: Vec<usize>,
     text: String,
+    /// Whether memory was refused for a part of the text. That is asked once, of the whole.
+    failed: bool,
 }
 
 /// The call that a step is of, but for its begin.
@@ -89,112 +92,128 @@ impl<'a> Pen<'a> {
             ends: ends(alloc, recording, prefix.count)?,
             values: values_by_rank(alloc, recording)?,
             text: String::new(alloc),
+            failed: false,
         })
     }
 
-    fn say(&mut self, text: &str) -> Result<(), AllocError> {
-        self.text.push_str(text)
+    /// The whole text.
+    fn written(self) -> Result<String, AllocError> {
+        if self.failed {
+            return Err(AllocError);
+        }
+        Ok(self.text)
+    }
+
+    fn say(&mut self, text: &str) {
+        self.failed |= self.text.push_str(text).is_err();
     }
 
     /// A number of things.
-    fn count(&mut self, number: usize) -> Result<(), AllocError> {
-        write!(self.text, "{number}")
+    fn count(&mut self, number: usize) {
+        self.failed |= write!(self.text, "{number}").is_err();
+    }
+
+    /// A client or a value, as it was written.
+    fn show(&mut self, json: &str) {
+        match shown(self.alloc, json) {
+            Ok(text) => self.say(text.as_str()),
+            Err(_) => self.failed = true,
+        }
     }
 
     /// The line of a step, and its time.
-    fn line(&mut self, step: usize) -> Result<(), AllocError> {
+    fn line(&mut self, step: usize) {
         let Some(step) = self.recording.steps.get(step).copied() else {
-            return self.say("the end");
+            self.say("the end");
+            return;
         };
         let number = step.line;
-        write!(self.text, "line {number}")?;
+        self.failed |= write!(self.text, "line {number}").is_err();
         let time = (step.time as usize).wrapping_sub(1);
         if let Some(time) = self.recording.times.get(time) {
             let time = time.as_str();
-            write!(self.text, " (time {time})")?;
+            self.failed |= write!(self.text, " (time {time})").is_err();
         }
-        Ok(())
     }
 
     /// The line of a place, or of the last one.
-    fn place(&mut self, place: usize) -> Result<(), AllocError> {
+    fn place(&mut self, place: usize) {
         match self.prefix.step_of.get(place).copied() {
             Some(step) => self.line(step),
             None => self.line(self.prefix.count.saturating_sub(1)),
         }
     }
 
-    fn client(&mut self, call: usize) -> Result<(), AllocError> {
+    fn client(&mut self, call: usize) {
         let client = self
             .recording
             .calls
             .get(call)
             .copied()
             .map_or(0, |call| call.client);
-        let text = match self.recording.clients.get(client) {
-            Some(text) => shown(self.alloc, text.as_str())?,
-            None => return Ok(()),
-        };
-        self.say(text.as_str())
+        if let Some(text) = self.recording.clients.get(client) {
+            self.show(text.as_str());
+        }
     }
 
-    fn value(&mut self, value: usize) -> Result<(), AllocError> {
-        let text = match self.recording.values.get(value) {
-            Some(text) => shown(self.alloc, text.as_str())?,
-            None => return Ok(()),
-        };
-        self.say(text.as_str())
+    fn value(&mut self, value: usize) {
+        if let Some(text) = self.recording.values.get(value) {
+            self.show(text.as_str());
+        }
     }
 
     /// What became of a put.
-    fn put_end(&mut self, call: usize) -> Result<(), AllocError> {
+    fn put_end(&mut self, call: usize) {
         let end = self.ends.get(call).copied().unwrap_or(0).wrapping_sub(1);
         let Some(step) = self.recording.steps.get(end).copied() else {
-            return self.say(", not answered");
+            self.say(", not answered");
+            return;
         };
         match step.act {
-            Act::Refuse(_) => self.say(", refused at ")?,
-            Act::LearnTaken(_, _) => self.say(", told done at ")?,
-            Act::LearnNotTaken(_) => self.say(", told not taken at ")?,
-            _ => self.say(", answered at ")?,
+            Act::Refuse(_) => self.say(", refused at "),
+            Act::LearnTaken(_, _) => self.say(", told done at "),
+            Act::LearnNotTaken(_) => self.say(", told not taken at "),
+            _ => self.say(", answered at "),
         }
-        self.line(end)
+        self.line(end);
     }
 
     /// The line of a put.
-    fn put(&mut self, call: usize, step: usize) -> Result<(), AllocError> {
+    fn put(&mut self, call: usize, step: usize) {
         let Some(of) = self.recording.calls.get(call).copied() else {
-            return Ok(());
+            return;
         };
         let value = of.puts.unwrap_or(usize::MAX);
-        self.line(step)?;
+        self.line(step);
         if of.is_base {
-            self.say(": the queue held ")?;
-            self.value(value)?;
-            return self.say(" at first");
+            self.say(": the queue held ");
+            self.value(value);
+            self.say(" at first");
+            return;
         }
-        self.say(": client ")?;
-        self.client(call)?;
-        self.say(" puts ")?;
-        self.value(value)?;
-        self.put_end(call)
+        self.say(": client ");
+        self.client(call);
+        self.say(" puts ");
+        self.value(value);
+        self.put_end(call);
     }
 
     /// The line of the put at a place.
-    fn put_at(&mut self, place: usize) -> Result<(), AllocError> {
+    fn put_at(&mut self, place: usize) {
         match (
             self.prefix.call_at(self.recording, place),
             self.prefix.step_of.get(place).copied(),
         ) {
             (Some(call), Some(step)) => self.put(call, step),
-            _ => Ok(()),
+            _ => {}
         }
     }
 
     /// What a take got, as it was answered or as somebody learnt.
-    fn take_end(&mut self, end: usize) -> Result<(), AllocError> {
+    fn take_end(&mut self, end: usize) {
         let Some(step) = self.recording.steps.get(end).copied() else {
-            return self.say(" is not answered");
+            self.say(" is not answered");
+            return;
         };
         let (said, found, got) = match step.act {
             Act::LearnTaken(_, said) => (
@@ -203,12 +222,12 @@ impl<'a> Pen<'a> {
                 " it is told that it got ",
             ),
             Act::Answer(_, said) => (said, " finds nothing", " gets "),
-            _ => return Ok(()),
+            _ => return,
         };
-        self.line(end)?;
+        self.line(end);
         match said {
             Said::Got(value) => {
-                self.say(got)?;
+                self.say(got);
                 self.value(value)
             }
             _ => self.say(found),
@@ -216,16 +235,16 @@ impl<'a> Pen<'a> {
     }
 
     /// The line of the take at a place.
-    fn take_at(&mut self, place: usize) -> Result<(), AllocError> {
+    fn take_at(&mut self, place: usize) {
         let Some(call) = self.prefix.call_at(self.recording, place) else {
-            return Ok(());
+            return;
         };
-        self.place(place)?;
-        self.say(": client ")?;
-        self.client(call)?;
-        self.say(" takes, and at ")?;
+        self.place(place);
+        self.say(": client ");
+        self.client(call);
+        self.say(" takes, and at ");
         let end = self.ends.get(call).copied().unwrap_or(0).wrapping_sub(1);
-        self.take_end(end)
+        self.take_end(end);
     }
 
     /// The value of the put at a place.
@@ -255,108 +274,105 @@ impl<'a> Pen<'a> {
     }
 
     /// Since when the values were in the queue, or not yet in it.
-    fn since(&mut self, indent: &str, since: Since) -> Result<(), AllocError> {
-        self.say(indent)?;
-        self.say("takes that were over at ")?;
-        self.place(since.place)?;
+    fn since(&mut self, indent: &str, since: Since) {
+        self.say(indent);
+        self.say("takes that were over at ");
+        self.place(since.place);
         match since.ahead {
             None => self.say(" came too early: what was put later is not theirs\n"),
             Some(ahead) => {
-                self.say(" came too early: ")?;
+                self.say(" came too early: ");
                 let value = self.value_at(ahead.put);
-                self.value(value)?;
-                self.say(", put before, came out later:\n")?;
-                self.say(indent)?;
-                self.say("  ")?;
-                self.put_at(ahead.put)?;
-                self.say("\n")?;
-                self.say(indent)?;
-                self.say("  ")?;
-                self.take_at(ahead.take)?;
+                self.value(value);
+                self.say(", put before, came out later:\n");
+                self.say(indent);
+                self.say("  ");
+                self.put_at(ahead.put);
+                self.say("\n");
+                self.say(indent);
+                self.say("  ");
+                self.take_at(ahead.take);
                 self.say("\n")
             }
         }
     }
 
     /// How few takes there are.
-    fn few(
-        &mut self,
-        indent: &str,
-        puts: usize,
-        takes: &[usize],
-        bound: usize,
-    ) -> Result<(), AllocError> {
-        self.say(indent)?;
+    fn few(&mut self, indent: &str, puts: usize, takes: &[usize], bound: usize) {
+        self.say(indent);
         if takes.is_empty() {
-            self.say("no take begun before ")?;
+            self.say("no take begun before ");
         } else {
-            self.say("only ")?;
-            self.count(takes.len())?;
-            self.say(" of the takes begun before ")?;
+            self.say("only ");
+            self.count(takes.len());
+            self.say(" of the takes begun before ");
         }
-        self.place(bound)?;
+        self.place(bound);
         if puts == 1 {
-            self.say(" can have taken it")?;
+            self.say(" can have taken it");
         } else {
-            self.say(" can have taken one of these ")?;
-            self.count(puts)?;
+            self.say(" can have taken one of these ");
+            self.count(puts);
         }
         let mut mark = ": of ";
         for take in takes {
-            self.say(mark)?;
-            self.place(*take)?;
+            self.say(mark);
+            self.place(*take);
             mark = ", of ";
         }
-        self.say("\n")
+        self.say("\n");
     }
 
     /// The puts of a lack, a line for each.
-    fn puts(&mut self, indent: &str, lack: &Lack) -> Result<(), AllocError> {
+    fn puts(&mut self, indent: &str, lack: &Lack) {
         match lack {
             Lack::Late { put, .. } => {
-                self.say(indent)?;
-                self.put_at(*put)?;
-                self.say("\n")?;
+                self.say(indent);
+                self.put_at(*put);
+                self.say("\n");
             }
             Lack::Few { puts, .. } => {
                 for put in puts {
-                    self.say(indent)?;
-                    self.put_at(*put)?;
-                    self.say("\n")?;
+                    self.say(indent);
+                    self.put_at(*put);
+                    self.say("\n");
                 }
             }
         }
-        Ok(())
     }
 
     /// Why the values of a lack cannot be out.
-    fn lack(&mut self, indent: &str, lack: &Lack, bound: usize) -> Result<(), AllocError> {
+    fn lack(&mut self, indent: &str, lack: &Lack, bound: usize) {
         match lack {
             Lack::Late { .. } => self.few(indent, 1, &[], bound),
             Lack::Few { puts, takes, since } => {
-                self.few(indent, puts.len(), takes, bound)?;
+                self.few(indent, puts.len(), takes, bound);
                 match since {
                     Some(since) => self.since(indent, *since),
-                    None => Ok(()),
+                    None => {}
                 }
             }
         }
     }
 
     /// What became of the value of one put that was passed over, in all of the recording.
-    fn later_of_one(&mut self, outs: &[usize], put: usize) -> Result<(), AllocError> {
+    fn later_of_one(&mut self, outs: &[usize], put: usize) {
         let out = outs.get(self.value_at(put)).copied().unwrap_or(0);
         if out == 0 {
-            return self.say("  it never came out\n");
+            self.say("  it never came out\n");
+            return;
         }
-        self.say("  it came out at ")?;
-        self.line(out.wrapping_sub(1))?;
-        self.say("\n")
+        self.say("  it came out at ");
+        self.line(out.wrapping_sub(1));
+        self.say("\n");
     }
 
     /// What became of the values that were passed over, in all of the recording.
-    fn later(&mut self, lack: &Lack) -> Result<(), AllocError> {
-        let outs = outs(self.alloc, self.recording)?;
+    fn later(&mut self, lack: &Lack) {
+        let Ok(outs) = outs(self.alloc, self.recording) else {
+            self.failed = true;
+            return;
+        };
         let puts = match lack {
             Lack::Few { puts, .. } if puts.len() > 1 => puts,
             _ => return self.later_of_one(&outs, first_put(lack)),
@@ -367,68 +383,62 @@ impl<'a> Pen<'a> {
                 lost = lost.saturating_add(1);
             }
         }
-        self.say("  ")?;
-        self.count(lost)?;
-        self.say(" of them never came out\n")
+        self.say("  ");
+        self.count(lost);
+        self.say(" of them never came out\n");
     }
 
     /// Values that were passed over.
-    fn passed_over(
-        &mut self,
-        take: usize,
-        put: usize,
-        bound: usize,
-        lack: &Lack,
-    ) -> Result<(), AllocError> {
+    fn passed_over(&mut self, take: usize, put: usize, bound: usize, lack: &Lack) {
         let count = count_of(lack);
         if count == 1 {
             let value = self.value_at(first_put(lack));
-            self.value(value)?;
-            self.say(" was passed over\n")?;
+            self.value(value);
+            self.say(" was passed over\n");
         } else {
-            self.count(count)?;
-            self.say(" values were passed over\n")?;
+            self.count(count);
+            self.say(" values were passed over\n");
         }
-        self.puts("  ", lack)?;
-        self.say("  ")?;
-        self.put_at(put)?;
+        self.puts("  ", lack);
+        self.say("  ");
+        self.put_at(put);
         self.say(if count == 1 {
             ", after that\n"
         } else {
             ", after those\n"
-        })?;
-        self.say("  ")?;
-        self.take_at(take)?;
-        self.say("\n")?;
-        self.lack("  ", lack, bound)?;
-        self.later(lack)
+        });
+        self.say("  ");
+        self.take_at(take);
+        self.say("\n");
+        self.lack("  ", lack, bound);
+        self.later(lack);
     }
 
-    fn piece(&mut self, piece: &Piece) -> Result<(), AllocError> {
-        self.say("  from ")?;
-        self.place(piece.from)?;
-        self.say(" to ")?;
-        self.place(piece.to)?;
-        self.say(":\n")?;
-        self.puts("    ", &piece.lack)?;
-        self.lack("    ", &piece.lack, piece.to)
+    fn piece(&mut self, piece: &Piece) {
+        self.say("  from ");
+        self.place(piece.from);
+        self.say(" to ");
+        self.place(piece.to);
+        self.say(":\n");
+        self.puts("    ", &piece.lack);
+        self.lack("    ", &piece.lack, piece.to);
     }
 
     /// A value that nobody can have put.
-    fn invented(&mut self, take: usize, message: Value) -> Result<(), AllocError> {
+    fn invented(&mut self, take: usize, message: Value) {
         let value = self.value_of(message);
-        self.value(value)?;
-        self.say(" came out and was not put\n  ")?;
-        self.take_at(take)?;
-        self.say("\n  ")?;
+        self.value(value);
+        self.say(" came out and was not put\n  ");
+        self.take_at(take);
+        self.say("\n  ");
         match self.step_of_put(value) {
-            Some((call, step)) => self.put(call, step)?,
+            Some((call, step)) => self.put(call, step),
             None => {
-                self.say("nobody had begun to put ")?;
-                self.value(value)?;
+                self.say("nobody had begun to put ");
+                self.value(value);
             }
         }
-        self.say("\n")
+        self.say("\n");
     }
 
     /// The put of a value among the first steps, and its step.
@@ -450,21 +460,21 @@ impl<'a> Pen<'a> {
         None
     }
 
-    fn twice(&mut self, first: usize, second: usize, message: Value) -> Result<(), AllocError> {
+    fn twice(&mut self, first: usize, second: usize, message: Value) {
         let value = self.value_of(message);
-        self.value(value)?;
-        self.say(" came out twice\n  ")?;
-        self.take_at(first)?;
-        self.say("\n  ")?;
-        self.take_at(second)?;
-        self.say("\n  ")?;
+        self.value(value);
+        self.say(" came out twice\n  ");
+        self.take_at(first);
+        self.say("\n  ");
+        self.take_at(second);
+        self.say("\n  ");
         if let Some((call, step)) = self.step_of_put(value) {
-            self.put(call, step)?;
+            self.put(call, step);
         }
-        self.say("\n")
+        self.say("\n");
     }
 
-    fn witness(&mut self, witness: &Witness) -> Result<(), AllocError> {
+    fn witness(&mut self, witness: &Witness) {
         match witness {
             Witness::Invented { take, value } => self.invented(*take, *value),
             Witness::Twice {
@@ -479,39 +489,38 @@ impl<'a> Pen<'a> {
                 lack,
             } => { self.passed_over(*take, *put, *bound, lack) }
             Witness::NotEmpty { take, pieces, .. } => {
-                self.say("a take found nothing, but the queue held something all the while\n  ")?;
-                self.take_at(*take)?;
-                self.say("\n")?;
+                self.say("a take found nothing, but the queue held something all the while\n  ");
+                self.take_at(*take);
+                self.say("\n");
                 for piece in pieces {
-                    self.piece(piece)?;
+                    self.piece(piece);
                 }
-                Ok(())
             }
         }
     }
 
     /// The entry of an order.
-    fn entry(&mut self, entry: Entry) -> Result<(), AllocError> {
+    fn entry(&mut self, entry: Entry) {
         let Some(call) = self.prefix.call_at(self.recording, entry.place) else {
-            return Ok(());
+            return;
         };
-        self.place(entry.place)?;
+        self.place(entry.place);
         let of = self.recording.calls.get(call).copied();
         if of.map_or(false, |of| of.is_base) {
-            self.say(": the queue held ")?;
+            self.say(": the queue held ");
         } else {
-            self.say(": ")?;
-            self.client(call)?;
+            self.say(": ");
+            self.client(call);
             self.say(match entry.reply {
                 Reply::Done => " puts ",
                 Reply::Got(_) => " takes ",
                 Reply::Empty => " finds nothing",
-            })?;
+            });
         }
         if let Some(value) = self.value_of_reply(entry.reply, of.and_then(|of| of.puts)) {
-            self.value(value)?;
+            self.value(value);
         }
-        self.say("\n")
+        self.say("\n");
     }
 }
 
@@ -624,11 +633,11 @@ fn impossible(
     witness: &Witness,
 ) -> Result<String, AllocError> {
     let mut pen = Pen::new(alloc, recording, prefix)?;
-    pen.say("impossible from ")?;
-    pen.line(prefix.count.saturating_sub(1))?;
-    pen.say(" on: ")?;
-    pen.witness(witness)?;
-    Ok(pen.text)
+    pen.say("impossible from ");
+    pen.line(prefix.count.saturating_sub(1));
+    pen.say(" on: ");
+    pen.witness(witness);
+    pen.written()
 }
 
 /// The verdict on a recording.
@@ -666,7 +675,7 @@ pub fn print_order(
     };
     let mut pen = Pen::new(alloc, recording, prefix)?;
     for entry in explanation.order.entries.as_slice() {
-        pen.entry(*entry)?;
+        pen.entry(*entry);
     }
-    Ok(pen.text)
+    pen.written()
 }

@@ -1,13 +1,13 @@
 //! The answer: an order, or the first step with which there is none.
 
 ghost use Rattle.std.specs.Prelude.{IfOk, IfSome};
-ghost use Rattle.recording.specs.Answers.{IsExplanation, IsRefutation, IsRight};
+ghost use Rattle.answers.specs.Answers.{IsExplanation, IsRefutation, IsRight};
 
-use crate::act::Recording;
 use crate::filling::told_events;
 use crate::prefix::{Prefix, prefix_of};
 use events::{Entry, Events, History, Order, Sequence};
 use findings::{Lack, Witness, explains_known, refutes};
+use recording::Recording;
 use seeking::{Found, search};
 use std::alloc::{AllocError, Global};
 use words::{Outcome, Told};

@@ -1,8 +1,8 @@
 //! What recovery tells clients, by an order.
 
-use crate::act::Recording;
 use crate::prefix::Prefix;
 use events::{Entry, Event, Events};
+use recording::Recording;
 use std::alloc::{AllocError, Global};
 use words::{Client, Outcome, Reply, Reports, Told, Verdict};
 

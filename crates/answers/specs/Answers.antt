@@ -2,10 +2,10 @@
 use Rattle.std.specs.Prelude.{⊤}
 use Rattle.events.specs.Explains.{IsExplained}
 use Rattle.findings.specs.Findings.{ExplainsFindings, HasNoOrder}
-use Rattle.recording.specs.declared.answering.Explanation.{Explanation}
-use Rattle.recording.specs.declared.answering.Refutation.{Refutation}
-use Rattle.recording.specs.declared.answering.Answer.{Answer}
-use Rattle.recording.specs.declared.answering.Answer.TheVariants.{Explained, Impossible, Unknown}
+use Rattle.answers.specs.declared.answer.Explanation.{Explanation}
+use Rattle.answers.specs.declared.answer.Refutation.{Refutation}
+use Rattle.answers.specs.declared.answer.Answer.{Answer}
+use Rattle.answers.specs.declared.answer.Answer.TheVariants.{Explained, Impossible, Unknown}
 
 -- the order explains the history, and what is known of its calls
 pub record IsExplanation (e : Explanation) : Type 0 where

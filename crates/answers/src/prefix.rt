@@ -1,7 +1,7 @@
 //! The first so many steps of a recording, as calls and as events.
 
-use crate::act::{Act, Recording, Said};
 use events::{Event, Events, copied};
+use recording::{Act, Recording, Said};
 use seeking::{Calls, Known};
 use std::alloc::{AllocError, Global};
 use words::{Call, Client, Outcome, Reply, Reports, Told};
