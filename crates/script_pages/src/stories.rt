@@ -3,7 +3,7 @@
 ghost use Rattle.std.specs.Prelude.{◌≡◌, IfErr};
 
 use crate::frames::{Differs, Frame, frames};
-use crate::page::Spelt;
+use crate::pictures::Spelt;
 use grammar::{QueueLine, Script};
 use interleave::Act;
 use std::alloc::{AllocError, Global};
@@ -429,7 +429,7 @@ fn write_page(
 }
 
 /// The page of a script's run, empty where the script has no queue; or NoMemory.
-pub(crate) fn story(alloc: Global, script: &Script) -> Result<Vec<u8>, Refusal>
+pub fn story(alloc: Global, script: &Script) -> Result<Vec<u8>, Refusal>
     ensures errors { IfErr result (λ e. e ≡ Refusal.NoMemory) }
 {
     let Some(queue) = script.queue() else {

@@ -115,12 +115,12 @@ impl fmt::Display for Spelt {
 
 /// What a page shows beside the report.
 #[derive(Drop)]
-pub(crate) struct Setting {
-    pub(crate) queue: QueueLine,
-    pub(crate) acts: Vec<Act>,
-    pub(crate) wanted: Wanted,
+pub struct Setting {
+    pub queue: QueueLine,
+    pub acts: Vec<Act>,
+    pub wanted: Wanted,
     /// How many words the memory has.
-    pub(crate) words: usize,
+    pub words: usize,
 }
 
 /// How large the parts of a picture are.
@@ -435,7 +435,7 @@ fn write_page(
 }
 
 /// The page of a report, or NoMemory.
-pub(crate) fn page(alloc: Global, setting: &Setting, report: &Report) -> Result<Vec<u8>, Refusal>
+pub fn page(alloc: Global, setting: &Setting, report: &Report) -> Result<Vec<u8>, Refusal>
     ensures errors { IfErr result (λ e. e ≡ Refusal.NoMemory) }
 {
     let mut text = String::new(alloc);
