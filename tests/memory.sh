@@ -128,10 +128,10 @@ again() {
 }
 
 refuse 'pqx run' examples/kept.script "$pqx" run
-refuse 'pqx points' crates/test_scenarios/data/points-log-enqueue.script "$pqx" points
-refuse 'pqx alone' crates/test_scenarios/data/points-log-enqueue.script "$pqx" alone
+refuse 'pqx points' tests/scenarios/points-log-enqueue.script "$pqx" points
+refuse 'pqx alone' tests/scenarios/points-log-enqueue.script "$pqx" alone
 refuse 'pqx run --page' examples/kept.script "$pqx" run --page "$work/page"
-refuse 'pqx points --page' crates/test_scenarios/data/points-log-enqueue.script "$pqx" points --page "$work/page"
+refuse 'pqx points --page' tests/scenarios/points-log-enqueue.script "$pqx" points --page "$work/page"
 refuse 'pqx broker run' tests/broker/image.in "$pqx" broker run
 again durable 'call content crash order ready refused return' tests/memory/durable.script run
 again log 'call content crash order ready refused return' tests/memory/log.script run

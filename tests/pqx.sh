@@ -7,7 +7,7 @@ cd "$(dirname "$0")/.."
 . tests/cases.sh
 pqx=${PQX:-$PWD/crates/pqx/out/pqx}
 need "$pqx"
-data=crates/test_scenarios/data
+data=tests/scenarios
 
 # Runs pqx with these words on the standard input that it was given. What is wanted stands in tests/pqx/NAME.out and
 # NAME.err, where there is no such file nothing: NAME STATUS WORD..
@@ -62,6 +62,9 @@ plays() {
 for script in "$data"/*.script; do
     name=$(basename "$script" .script)
     plays "script $name" "$script" "$data/$name.out" run
+done
+for script in examples/*.script; do
+    judge "$script" "$(difference "$script" "$data/$(basename "$script")" "$script")"
 done
 
 # A crash of a whole broker at each point of a script, and which words are kept then.

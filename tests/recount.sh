@@ -5,10 +5,10 @@ set -eu
 cd "$(dirname "$0")/.."
 . tests/cases.sh
 
-cp -r crates/test_scenarios/data "$work/data"
+cp -r tests/scenarios "$work/data"
 status=0
 python3 -B bench/plain/recount.py bench/plain "$work"/data/*.script > "$work/out" || status=$?
-said=$(diff -r crates/test_scenarios/data "$work/data" || true)
+said=$(diff -r tests/scenarios "$work/data" || true)
 [ "$status" -eq 0 ] || said+="status $status: $(cat "$work/out")"
 judge 'with the tables as they are' "$said"
 
