@@ -2,6 +2,7 @@
 
 ghost use Rattle.std.specs.Prelude.{◌≡◌, IfOk, IfErr, length, map};
 ghost use Rattle.std.specs.List.{range_with_len};
+ghost use Rattle.interleave.specs.State.{new_world};
 ghost use Rattle.explore.specs.Points.{found_of, found_in, found_after};
 ghost use Rattle.playing.specs.Transcript.{told_at};
 
@@ -53,6 +54,27 @@ fn found(alloc: Global, world: &World, steps: u32) -> Result<Point, Refusal>
     })
 }
 
+/// What a crash comes to in a new world that makes these acts first.
+fn crash_in(
+    alloc: Global,
+    world: &mut World,
+    acts: &[Act],
+    evictions: Evictions,
+) -> Result<Point, Refusal>
+    requires { world.old.now ≡ new_world world.old.now.shape }
+    ensures found { IfOk result (λ found. found_of found
+        ≡ found_after world.old.now.shape acts.now evictions (length acts.now)) }
+    ensures errors { IfErr result (λ e. e ≡ Refusal.NoMemory) }
+{
+    attempt_all(world, acts)?;
+    evict_words(world, evictions, acts.len() as u64);
+    world.crash()?;
+    let most = most_to_ready(world.layout());
+    // Steps once the queue is ready are refused, and not counted.
+    let steps = repeat(world, &Act::Recover, most)?;
+    found(alloc, world, steps)
+}
+
 /// A new world makes these acts, then the environment evicts what it is to evict at this point, everything stops, and
 /// recovery goes on to its end.
 pub(crate) fn crash(
@@ -66,15 +88,8 @@ pub(crate) fn crash(
         ≡ found_after layout acts.now evictions (length acts.now)) }
     ensures errors { IfErr result (λ e. e ≡ Refusal.NoMemory) }
 {
-    let point = acts.len() as u64;
     let mut world = spare.world(alloc, layout)?;
-    attempt_all(&mut world, acts)?;
-    evict_words(&mut world, evictions, point);
-    world.crash()?;
-    let most = most_to_ready(world.layout());
-    // Steps once the queue is ready are refused, and not counted.
-    let steps = repeat(&mut world, &Act::Recover, most)?;
-    let found = found(alloc, &world, steps);
+    let found = crash_in(alloc, &mut world, acts, evictions);
     spare.keep(world);
     found
 }

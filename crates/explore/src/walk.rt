@@ -1,7 +1,9 @@
 //! Points that one worker makes, one after another.
 
 ghost use Rattle.std.specs.Prelude.{◌≡◌, ◌<◌, ◌≤◌, ◌+◌, ◌-◌, ◌++◌, ◌∷◌, [], OnOk, IfOk, IfErr, length};
+ghost use Rattle.arena.specs.Layout.{size_of};
 ghost use Rattle.interleave.specs.Holds.{Holds};
+ghost use Rattle.interleave.specs.State.{new_world};
 ghost use Rattle.explore.specs.Points.{all_found, found_between, found_stopped, found_unevicted, AddsFound, MakesNextAct};
 
 use crate::evictions::Evictions;
@@ -70,8 +72,54 @@ fn pass_point(
     go_on(world, acts, point)
 }
 
-/// The points from one on, up to another, where no word is evicted. One world makes the acts, and at each point a copy
-/// of what it keeps recovers.
+/// Makes the acts before a point in a new world, and gives the points from there on, up to another. At each a copy of
+/// what the world keeps recovers.
+fn stops_in(
+    alloc: Global,
+    world: &mut World,
+    probe: &mut Probe,
+    acts: &[Act],
+    from: usize,
+    to: usize,
+) -> Result<Vec<Point>, Refusal>
+    requires ordered { from < to }
+    requires within { to ≤ length acts.now + 1 }
+    requires world { world.old.now ≡ new_world world.old.now.shape }
+    requires size { length probe.old.copy.words.kept ≡ size_of world.old.now.shape }
+    ensures points { IfOk result
+        (λ points. all_found points.items ≡ found_unevicted world.old.now.shape acts.now from to) }
+    ensures errors { IfErr result (λ e. e ≡ Refusal.NoMemory) }
+{
+    attempt_all(world, &acts[..from])?;
+    let mut points = Vec::new(alloc);
+    for point in from..to {
+        // Its clauses make known what holds of the world.
+        let _ = world.history();
+        pass_point(&mut points, alloc, world, probe, acts, point)?;
+    }
+    Ok(points)
+}
+
+/// Makes the acts in a new world, and gives the points from one on, up to another.
+fn stops_of(
+    alloc: Global,
+    world: &mut World,
+    acts: &[Act],
+    from: usize,
+    to: usize,
+) -> Result<Vec<Point>, Refusal>
+    requires ordered { from < to }
+    requires within { to ≤ length acts.now + 1 }
+    requires world { world.old.now ≡ new_world world.old.now.shape }
+    ensures points { IfOk result
+        (λ points. all_found points.items ≡ found_unevicted world.old.now.shape acts.now from to) }
+    ensures errors { IfErr result (λ e. e ≡ Refusal.NoMemory) }
+{
+    let mut probe = Probe::new(alloc, *world.layout())?;
+    stops_in(alloc, world, &mut probe, acts, from, to)
+}
+
+/// The points from one on, up to another, where no word is evicted: one world makes all acts.
 pub(crate) fn stopped_points(
     alloc: Global,
     layout: Layout,
@@ -85,15 +133,7 @@ pub(crate) fn stopped_points(
     ensures errors { IfErr result (λ e. e ≡ Refusal.NoMemory) }
 {
     let mut world = World::make(alloc, layout)?;
-    attempt_all(&mut world, &acts[..from])?;
-    let mut probe = Probe::new(alloc, layout)?;
-    let mut points = Vec::new(alloc);
-    for point in from..to {
-        // Its clauses make known what holds of the world.
-        let _ = world.history();
-        pass_point(&mut points, alloc, &mut world, &mut probe, acts, point)?;
-    }
-    Ok(points)
+    stops_of(alloc, &mut world, acts, from, to)
 }
 
 /// The same where words are evicted. An eviction may make a call take effect, and which one is the world's to know: so
