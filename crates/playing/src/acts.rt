@@ -1,7 +1,7 @@
 //! The acts of a script.
 
 ghost use Rattle.std.specs.Prelude.{◌≡◌, ◌++◌, ◌∷◌, [], OnOk, IfOk, IfErr, replicate};
-ghost use Rattle.interleave.specs.State.{after_acts};
+ghost use Rattle.interleave.specs.State.{after_acts, new_world};
 ghost use Rattle.protocol.specs.declared.acts.Act.TheVariants.{Start};
 ghost use Rattle.playing.specs.Acts.{accepted_by, accepted_of, acts_of, attempts_of, IsSteady};
 
@@ -107,6 +107,19 @@ fn follow(world: &mut World, acts: &mut Vec<Act>, command: Command) -> Result<()
     }
 }
 
+/// The acts of commands that a new world accepts, in order.
+fn accepted_in(alloc: Global, world: &mut World, commands: &[Command]) -> Result<Vec<Act>, Refusal>
+    requires { world.old.now ≡ new_world world.old.now.shape }
+    ensures acts { IfOk result (λ acts. acts.items ≡ acts_of world.old.now.shape commands.now) }
+    ensures errors { IfErr result (λ e. e ≡ Refusal.NoMemory) }
+{
+    let mut acts = Vec::new(alloc);
+    for command in commands {
+        follow(world, &mut acts, *command)?;
+    }
+    Ok(acts)
+}
+
 /// The acts of commands on a new world that are accepted, in order.
 pub fn accepted_acts(
     alloc: Global,
@@ -117,9 +130,5 @@ pub fn accepted_acts(
     ensures errors { IfErr result (λ e. e ≡ Refusal.NoMemory) }
 {
     let mut world = World::make(alloc, layout)?;
-    let mut acts = Vec::new(alloc);
-    for command in commands {
-        follow(&mut world, &mut acts, *command)?;
-    }
-    Ok(acts)
+    accepted_in(alloc, &mut world, commands)
 }

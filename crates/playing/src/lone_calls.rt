@@ -15,14 +15,13 @@ use interleave::{Act, World};
 use std::alloc::Global;
 use words::{Client, Refusal};
 
-/// A new world that has made these acts.
-fn world_after(alloc: Global, layout: Layout, acts: &[Act]) -> Result<World, Refusal>
-    ensures world { IfOk result (λ world. world.now ≡ after_acts (new_world layout) acts.now) }
+/// Makes this a new world that has made these acts.
+fn make_again(world: &mut World, alloc: Global, layout: Layout, acts: &[Act]) -> Result<(), Refusal>
+    ensures world { OnOk result (world.new.now ≡ after_acts (new_world layout) acts.now) }
     ensures errors { IfErr result (λ e. e ≡ Refusal.NoMemory) }
 {
-    let mut world = World::make(alloc, layout)?;
-    attempt_all(&mut world, acts)?;
-    Ok(world)
+    *world = World::make(alloc, layout)?;
+    attempt_all(world, acts)
 }
 
 /// A client's call goes on alone to its answer, which is added. It answers whether there was such a call: where the
@@ -55,6 +54,49 @@ fn go_alone(
     }
 }
 
+/// Adds what becomes of a client's call, where it goes on alone in a world that has made these acts. It is such a world
+/// again then.
+fn add_client(
+    found: &mut Vec<Alone>,
+    alloc: Global,
+    world: &mut World,
+    layout: Layout,
+    acts: &[Act],
+    client: Client,
+) -> Result<(), Refusal>
+    requires { world.old.now ≡ after_acts (new_world layout) acts.now }
+    ensures world { OnOk result (world.new.now ≡ world.old.now) }
+    ensures found { OnOk result (found.new.items
+        ≡ found.old.items ++ lone_answer (length acts.now) world.old.now client) }
+    ensures errors { IfErr result (λ e. e ≡ Refusal.NoMemory) }
+{
+    if go_alone(found, world, acts.len() as u64, client)? {
+        // The call has changed its world: the next one stopped in another.
+        make_again(world, alloc, layout, acts)?;
+    }
+    Ok(())
+}
+
+/// A new world makes these acts, and what becomes of each client's call is added, where it goes on alone.
+fn add_each(
+    found: &mut Vec<Alone>,
+    alloc: Global,
+    world: &mut World,
+    layout: Layout,
+    acts: &[Act],
+) -> Result<(), Refusal>
+    requires { world.old.now ≡ new_world layout }
+    ensures found { OnOk result (found.new.items
+        ≡ found.old.items ++ alone_after layout acts.now (length acts.now)) }
+    ensures errors { IfErr result (λ e. e ≡ Refusal.NoMemory) }
+{
+    attempt_all(world, acts)?;
+    for number in 0..world.layout().clients() {
+        add_client(found, alloc, world, layout, acts, Client(number as u8))?;
+    }
+    Ok(())
+}
+
 /// Adds what becomes of each client's call after these acts, where it goes on alone.
 fn add_clients(
     found: &mut Vec<Alone>,
@@ -66,15 +108,8 @@ fn add_clients(
         ≡ found.old.items ++ alone_after layout acts.now (length acts.now)) }
     ensures errors { IfErr result (λ e. e ≡ Refusal.NoMemory) }
 {
-    let point = acts.len() as u64;
-    let mut world = world_after(alloc, layout, acts)?;
-    for number in 0..world.layout().clients() {
-        if go_alone(found, &mut world, point, Client(number as u8))? {
-            // The call has changed its world: the next one stopped in another.
-            world = world_after(alloc, layout, acts)?;
-        }
-    }
-    Ok(())
+    let mut world = World::make(alloc, layout)?;
+    add_each(found, alloc, &mut world, layout, acts)
 }
 
 /// What becomes of each call that stopped, at each point.

@@ -1,21 +1,37 @@
 //! A world that follows a script.
 
 ghost use Rattle.std.specs.Prelude.{◌≡◌, ◌<◌, ◌≤◌, ◌++◌, ◌∷◌, [], Ok, IfOk, IfErr, IsErrOf, OnErr, OnOk, false, true};
+ghost use Rattle.std.specs.List.{flat_map};
 ghost use Rattle.grammar.specs.Grammar.{is_shown};
 ghost use Rattle.interleave.specs.State.{recover_result, steps_to_ready};
 ghost use Rattle.playing.specs.Play.{most_alone, most_recovery, new_play, play_after_start, after_steps, after_eviction, play_after_crash, play_after_recovery_step, after_recovery, after_command, EndsAtNextStep};
-ghost use Rattle.playing.specs.Transcript.{start_lines, step_lines, ready_lines, recovery_lines, command_lines, AddsLastLines};
+ghost use Rattle.playing.specs.Transcript.{start_lines, step_lines, ready_lines, recovery_lines, command_lines, entry_lines, AddsLastLines};
 
 use crate::entries::named_call;
 use crate::lines::{Line, Values, add, add_refused};
 use crate::put_off::Unfollowed;
 use crate::steps::Steps;
 use arena::Layout;
+use events::{Entry, Events};
 use grammar::{Command, is_shown};
 use interleave::World;
 use std::alloc::Global;
 use std::marker::Model;
 use words::{Call, Client, Refusal};
+
+/// Shows the calls that entries of an order name.
+fn show_entries(lines: &mut Vec<Line>, events: &Events, entries: &[Entry]) -> Result<(), Refusal>
+    ensures lines { OnOk result (lines.new.items
+        ≡ lines.old.items ++ flat_map (entry_lines events.now.items) entries.now) }
+    ensures errors { IfErr result (λ e. e ≡ Refusal.NoMemory) }
+{
+    for entry in entries {
+        if let Some(ordered) = named_call(events, *entry) {
+            add(lines, Line::Entry(ordered))?;
+        }
+    }
+    Ok(())
+}
 
 /// A world that follows commands, and how many steps its calls and its recovery have made.
 #[derive(Drop)]
@@ -234,14 +250,9 @@ impl Player {
         ensures errors { IfErr result (λ e. e ≡ Refusal.NoMemory) }
     {
         let order = self.world.order()?;
-        let events = &self.world.history().events;
-        add(lines, Line::Order(order.entries.as_slice().len()))?;
-        for entry in order.entries.as_slice() {
-            if let Some(ordered) = named_call(events, *entry) {
-                add(lines, Line::Entry(ordered))?;
-            }
-        }
-        Ok(())
+        let entries = order.entries.as_slice();
+        add(lines, Line::Order(entries.len()))?;
+        show_entries(lines, &self.world.history().events, entries)
     }
 
     /// Shows what a command asks for: all of it or nothing.

@@ -4,7 +4,7 @@
 
 ghost use Rattle.std.specs.Prelude.{◌≡◌, ◌++◌, ◌∷◌, [], Ok, IfOk, IfErr, Some, false, true, slice_get};
 ghost use Rattle.grammar.specs.declared.commands.Command.{Command};
-ghost use Rattle.playing.specs.Play.{after_command};
+ghost use Rattle.playing.specs.Play.{after_command, new_play};
 ghost use Rattle.playing.specs.Transcript.{command_lines, refused_memory, IsTranscript, MayGiveOn};
 
 use crate::lines::{Line, add, text};
@@ -53,23 +53,37 @@ fn follow(
     }
 }
 
-/// Follows all commands on a new world.
-fn play(alloc: Global, layout: Layout, commands: &[Command]) -> Result<Vec<Line>, Refusal>
+/// Follows all commands, and gives their lines after that of the new world's size.
+fn follow_all(
+    alloc: Global,
+    player: &mut Player,
+    layout: Layout,
+    commands: &[Command],
+) -> Result<Vec<Line>, Refusal>
+    requires { player.old ≡ new_play layout }
     ensures lines { IfOk result (λ lines. MayGiveOn layout commands.now lines.items) }
     ensures errors { IfErr result (λ e. e ≡ Refusal.NoMemory) }
 {
     let mut lines = Vec::new(alloc);
     add(&mut lines, Line::Size(layout.size()))?;
-    let mut player = Player::new(alloc, layout)?;
     // Which command is made: the one that was put off, in place of the `again` after it.
     let mut made = 0;
     let mut put_off = false;
     for at in 0..commands.len() {
         made = line_to_make(put_off, made, at);
         let again = is_again(commands, at + 1);
-        put_off = follow(&mut player, &mut lines, &commands[made], again)?;
+        put_off = follow(player, &mut lines, &commands[made], again)?;
     }
     Ok(lines)
+}
+
+/// Follows all commands on a new world.
+fn play(alloc: Global, layout: Layout, commands: &[Command]) -> Result<Vec<Line>, Refusal>
+    ensures lines { IfOk result (λ lines. MayGiveOn layout commands.now lines.items) }
+    ensures errors { IfErr result (λ e. e ≡ Refusal.NoMemory) }
+{
+    let mut player = Player::new(alloc, layout)?;
+    follow_all(alloc, &mut player, layout, commands)
 }
 
 /// What a world prints that follows a script: the whole text, or NoMemory.

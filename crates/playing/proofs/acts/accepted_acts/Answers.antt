@@ -1,15 +1,14 @@
-use Rattle.std.proofs.Common.{◌≡◌, ◌++◌, [], drop, refl, sym, ap, ◌∙◌, arith}
-use Rattle.std.proofs.lemmas.List.{append-nil, drop_all}
-use Rattle.interleave.specs.State.{new_world}
-use Rattle.playing.proofs.InOrder.{acts_along, acts_are}
+use Rattle.std.proofs.Common.{sym, ap, ◌∙◌}
+use Rattle.std.proofs.lemmas.Result.{IfOk-weaker}
+use Rattle.interleave.specs.State.{State, new_world}
+use Rattle.playing.specs.Acts.{acts_of}
 use Rattle.playing.proofs.acts.accepted_acts.Goals as goal
+
+pub accepted_in-requires : goal.accepted_in-requires
+accepted_in-requires c =
+    let made = c.in_ok-world.ensures.made in made ∙ ap (λ (w : State). new_world w.shape) (sym made)
 
 pub returns-clause-acts : goal.returns-clause-acts
 returns-clause-acts c =
-    let w = c.loop-command.world.now in
-    let s = c.args.layout in
-    let acts = c.loop-command.acts.items in
-    let none : drop c.loop-command.command-index c.args.commands.now ≡ [] =
-    drop_all c.loop-command.command-index c.args.commands.now (omega (arith, c.loop-command-test.false)) in
-    sym (append-nil acts) ∙ ap (λ l. acts ++ acts_along w l) (sym none) ∙ c.loop-command.invariant
-    ∙ acts_are c.args.commands.now (new_world s) s refl
+    IfOk-weaker c.accepted_in.result _ _
+    (λ acts is. is ∙ ap (λ (w : State). acts_of w.shape c.args.commands.now) c.in_ok-world.ensures.made) c.accepted_in.ensures.acts

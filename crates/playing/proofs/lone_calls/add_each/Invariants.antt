@@ -1,9 +1,8 @@
 use Rattle.std.proofs.Common.{◌≡◌, ◌-◌, ◌++◌, length}
 use Rattle.std.specs.List.{flat_map, range_with_len}
 use Rattle.interleave.specs.State.{after_acts, new_world}
-use Rattle.playing.specs.Play.{most_alone}
-use Rattle.playing.specs.Stopped.{alone_after, answer_alone}
-use Rattle.playing.proofs.lone_calls.add_clients.Given as goal
+use Rattle.playing.specs.Stopped.{lone_answer, lone_answers}
+use Rattle.playing.proofs.lone_calls.add_each.Given as goal
 
 -- the world has made the acts, and what was found so far, and what comes of the clients that are left, are all
 abbrev pub invariant-loop-number : goal.invariant-loop-number
@@ -13,7 +12,7 @@ invariant-loop-number l =
       world : l.world.now ≡ w;
       found :
           l.found.items
-          ++ flat_map (λ number. answer_alone (length l.acts) 0 most_alone w (record { 0 = number }))
+          ++ flat_map (λ number. lone_answer (length l.acts) w (record { 0 = number }))
           (range_with_len l.number (l.number-end - l.number))
-          ≡ l.fn.found.items ++ alone_after l.layout l.acts (length l.acts);
+          ≡ l.fn.found.items ++ lone_answers (length l.acts) w;
     }

@@ -5,7 +5,7 @@ use Rattle.grammar.specs.declared.commands.Command.{Command}
 use Rattle.grammar.specs.declared.commands.Command.TheVariants.{Again}
 use Rattle.playing.proofs.Again.{made_first, made_within, nothing_pending}
 use Rattle.playing.proofs.MayGive.{may_end, may_next, MayLead}
-use Rattle.playing.proofs.transcripts.play.Goals as goal
+use Rattle.playing.proofs.transcripts.follow_all.Goals as goal
 
 pub loop-at-preserved : goal.loop-at-preserved
 loop-at-preserved c =

@@ -1,7 +1,7 @@
 use Rattle.std.proofs.Common.{◌≡◌, ◌≤◌, ◌<◌, true, length}
 use Rattle.playing.proofs.Again.{pending}
 use Rattle.playing.proofs.MayGive.{MayLead}
-use Rattle.playing.proofs.transcripts.play.Given as goal
+use Rattle.playing.proofs.transcripts.follow_all.Given as goal
 
 -- the lines so far, and what the commands that are left give, are all that there are
 abbrev pub invariant-loop-at : goal.invariant-loop-at
