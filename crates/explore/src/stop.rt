@@ -2,7 +2,9 @@
 
 ghost use Rattle.std.specs.Prelude.{◌≡◌, ◌≤◌, OnOk, IfOk, IfErr, IsTrue, length};
 ghost use Rattle.arena.specs.Layout.{size_of};
+ghost use Rattle.interleave.specs.Content.{content_by};
 ghost use Rattle.interleave.specs.Holds.{Holds};
+ghost use Rattle.interleave.specs.Ranges.{KeptFit};
 ghost use Rattle.interleave.specs.State.{kept_content, order_in};
 ghost use Rattle.explore.specs.Points.{events_once_ready, found_of, found_stopped, recovered};
 
@@ -81,20 +83,14 @@ fn nothing_seen(alloc: Global) -> Seen {
     }
 }
 
-/// What asks the checker, point after point.
-#[derive(Drop)]
-struct Checks {
-    /// What happened to the world, and to the copy since.
-    history: History,
-    seen: Seen,
-}
-
 /// What looks at a world that stops, point after point.
 #[derive(Drop)]
 pub(crate) struct Probe {
     /// A copy of what the world keeps, which recovers in its place.
     copy: Memory,
-    checks: Checks,
+    /// What happened to the world, and to the copy since.
+    history: History,
+    seen: Seen,
 }
 
 impl Probe {
@@ -104,11 +100,11 @@ impl Probe {
         ensures errors { IfErr result (λ e. e ≡ Refusal.NoMemory) }
     {
         let copy = Memory::new(alloc, layout.size())?;
-        let checks = Checks {
+        Ok(Probe {
+            copy,
             history: no_history(alloc),
             seen: nothing_seen(alloc),
-        };
-        Ok(Probe { copy, checks })
+        })
     }
 }
 
@@ -153,37 +149,17 @@ fn is_right(
     check_content(alloc, history, order, content)
 }
 
-impl Checks {
-    /// The same of the world's own order. The checker is asked, unless nothing that it reads has changed since the point
-    /// before.
-    fn are_right(
-        &mut self,
-        alloc: Global,
-        world: &World,
-        before: Option<&Point>,
-        told: &Reports,
-        content: &[Value],
-    ) -> Result<bool, Refusal>
-        requires holds { Holds world.now.now }
-        requires told { (recovered world.now.now).log.events ≡ events_once_ready world.now.now told.now }
-        requires content { content.now ≡ kept_content (recovered world.now.now) }
-        ensures right { IfOk result (λ right. IsTrue right) }
-        ensures errors { IfErr result (λ e. e ≡ Refusal.NoMemory) }
-    {
-        let events = world.history().events.len();
-        let order = world.order()?;
-        let right = if was_right(&self.seen, before, events, &order, told, content) {
-            true
-        } else {
-            is_right(alloc, world, &mut self.history, &order, told, content)?
-        };
-        self.seen = Seen { events, order };
-        Ok(right)
-    }
+/// What a queue of this layout holds by what the copy keeps.
+fn content_kept(alloc: Global, layout: Layout, copy: &Memory) -> Result<Vec<Value>, Refusal>
+    requires { KeptFit layout copy.now.words.kept }
+    ensures content { IfOk result (λ content. content.items ≡ content_by layout copy.now.words.kept) }
+    ensures errors { IfErr result (λ e. e ≡ Refusal.NoMemory) }
+{
+    Core::new(alloc, layout).content(copy)
 }
 
 /// What is found once a world that stops now has recovered. It does so on a copy of what it keeps, and the world goes
-/// on.
+/// on. The checker is asked, unless nothing that it reads has changed since the point before.
 pub(crate) fn stop(
     alloc: Global,
     world: &World,
@@ -198,10 +174,15 @@ pub(crate) fn stop(
 {
     copy_kept(&mut probe.copy, world.memory());
     let Recovered { steps, told } = recover(&mut probe.copy, world);
-    let content = Core::new(alloc, *world.layout()).content(&probe.copy)?;
-    let ok = probe
-        .checks
-        .are_right(alloc, world, before, &told, &content)?;
+    let content = content_kept(alloc, *world.layout(), &probe.copy)?;
+    let events = world.history().events.len();
+    let order = world.order()?;
+    let ok = if was_right(&probe.seen, before, events, &order, &told, &content) {
+        true
+    } else {
+        is_right(alloc, world, &mut probe.history, &order, &told, &content)?
+    };
+    probe.seen = Seen { events, order };
     Ok(Point {
         steps: u64::from(steps),
         told,
