@@ -1,5 +1,5 @@
 -- The lines of a world that follows a script.
-use Rattle.std.specs.Prelude.{◌≡◌, ◌≢◌, ℕ, All, false, zero, suc, List, [], ◌∷◌, ◌++◌, Option, Some, None, is_some, Result, Ok, Err, length, slice_get, slice_index}
+use Rattle.std.specs.Prelude.{◌≡◌, ◌≢◌, ◌<◌, ◌≤◌, ℕ, All, false, zero, suc, List, [], ◌∷◌, ◌++◌, Option, Some, None, is_some, Result, Ok, Err, length, slice_get, slice_index}
 use Rattle.std.specs.List.{flat_map}
 use Rattle.words.specs.declared.call.Call.{Call}
 use Rattle.words.specs.declared.call.Call.TheVariants.{Enq as enq_call, Deq as deq_call}
@@ -15,7 +15,7 @@ use Rattle.events.specs.declared.event.Entry.{Entry}
 use Rattle.events.specs.declared.event.Event.{Event}
 use Rattle.events.specs.declared.event.Event.TheVariants.{Call as call_event, Return as return_event, Crash as crash_event, Ready as ready_event}
 use Rattle.interleave.specs.Queue.{told_in, told_to}
-use Rattle.interleave.specs.State.{State, start_result, step_result, evict_result, recover_result, order_in, kept_content}
+use Rattle.interleave.specs.State.{State, start_result, step_result, evict_result, recover_result, steps_to_ready, order_in, kept_content}
 use Rattle.grammar.specs.Grammar.{shape_by}
 use Rattle.playing.specs.Play.{Play, play_after_step, play_after_recovery_step, recover_then, most_alone, most_recovery, after_command, new_play}
 use Rattle.playing.specs.Prints.{text_of}
@@ -76,6 +76,15 @@ recovery_lines (suc most) play =
 -- recovery ends at its next step, however many more it was to make, and the lines of that are added
 abbrev pub AddsLastLines : Play → List Line → List Line → Type 0
 AddsLastLines play before after = (more : ℕ) → after ≡ before ++ recovery_lines (suc more) play
+
+-- recovery goes on after a step: the queue is not ready yet, but nearer to it, and there is no line
+pub record GoesOnRecovering (old new : Play) (before after : List Line) : Type 0 where
+  pub goes_on : recover_result false old.world ≡ Ok false
+  pub same_lines : after ≡ before
+  pub next : new ≡ play_after_recovery_step old
+  pub few : steps_to_ready old.world ≤ most_recovery old.world
+  pub falls : steps_to_ready new.world < steps_to_ready old.world
+  pub needs : 0 < steps_to_ready new.world
 
 -- the call that an event begins, with this reply
 abbrev pub call_in_order : Option Event → Reply → Option Ordered

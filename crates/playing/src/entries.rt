@@ -1,6 +1,8 @@
 //! The calls that the entries of an order name.
 
-ghost use Rattle.std.specs.Prelude.{◌≡◌};
+ghost use Rattle.std.specs.Prelude.{◌≡◌, ◌++◌, decimal};
+ghost use Rattle.std.specs.Fmt.{WritesOnOk};
+ghost use Rattle.playing.specs.Prints.{number_text};
 ghost use Rattle.playing.specs.Transcript.{call_in_order_at};
 
 use events::{Entry, Event, Events};
@@ -17,6 +19,21 @@ pub struct Ordered {
     pub reply: Reply,
 }
 
+/// Writes the client, and the number of its call on a log queue.
+fn write_caller<W: fmt::Write>(
+    f: &mut fmt::Formatter<W>,
+    client: Client,
+    number: u64,
+) -> fmt::Result
+    ensures { WritesOnOk W.write_str_gives f.old result (decimal client.0 ++ number_text number) f.new }
+{
+    if number == 0 {
+        write!(f, "{}", client.0)
+    } else {
+        write!(f, "{} #{number}", client.0)
+    }
+}
+
 /// As a transcript spells it: `0 enq 05 done`, `0 #1 enq 09 done`, `1 deq got 05`.
 impl fmt::Display for Ordered {
     ghost use Rattle.std.specs.Prelude.{Some};
@@ -25,15 +42,11 @@ impl fmt::Display for Ordered {
     ghost output = { λ ordered. Some (ordered_text ordered) };
 
     fn fmt<W: fmt::Write>(&self, f: &mut fmt::Formatter<W>) -> fmt::Result {
-        write!(f, "{}", self.client.0)?;
-        if self.number != 0 {
-            write!(f, " #{}", self.number)?;
-        }
+        write_caller(f, self.client, self.number)?;
         match self.call {
-            Call::Enq(value) => write!(f, " enq {value} ")?,
-            Call::Deq => write!(f, " deq ")?,
+            Call::Enq(value) => write!(f, " enq {value} {}", self.reply),
+            Call::Deq => write!(f, " deq {}", self.reply),
         }
-        write!(f, "{}", self.reply)
     }
 }
 

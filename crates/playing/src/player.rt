@@ -1,11 +1,10 @@
 //! A world that follows a script.
 
-ghost use Rattle.std.specs.Prelude.{◌≡◌, ◌<◌, ◌≤◌, ◌++◌, ◌∷◌, [], Ok, IfOk, IfErr, IsErrOf, OnErr, OnOk, false, true};
+ghost use Rattle.std.specs.Prelude.{◌≡◌, ◌++◌, ◌∷◌, [], Ok, IfOk, IfErr, IsErrOf, OnErr, OnOk, false, true};
 ghost use Rattle.std.specs.List.{flat_map};
 ghost use Rattle.grammar.specs.Grammar.{is_shown};
-ghost use Rattle.interleave.specs.State.{recover_result, steps_to_ready};
-ghost use Rattle.playing.specs.Play.{most_alone, most_recovery, new_play, play_after_start, after_steps, after_eviction, play_after_crash, play_after_recovery_step, after_recovery, after_command, EndsAtNextStep};
-ghost use Rattle.playing.specs.Transcript.{start_lines, step_lines, ready_lines, recovery_lines, command_lines, entry_lines, AddsLastLines};
+ghost use Rattle.playing.specs.Play.{most_alone, most_recovery, new_play, play_after_start, after_steps, after_eviction, play_after_crash, after_recovery, after_command, EndsAtNextStep};
+ghost use Rattle.playing.specs.Transcript.{start_lines, step_lines, ready_lines, recovery_lines, command_lines, entry_lines, AddsLastLines, GoesOnRecovering};
 
 use crate::entries::named_call;
 use crate::lines::{Line, Values, add, add_refused};
@@ -186,12 +185,7 @@ impl Player {
     /// One step of recovery. It answers whether that ends the command: where the queue is ready now, or the step is
     /// refused.
     fn recover_step(&mut self, lines: &mut Vec<Line>) -> Result<bool, Refusal>
-        ensures goes_on { result ≡ Ok false → recover_result false self.old.world ≡ Ok false }
-        ensures same_lines { result ≡ Ok false → lines.new.items ≡ lines.old.items }
-        ensures next { result ≡ Ok false → self.new ≡ play_after_recovery_step self.old }
-        ensures few { result ≡ Ok false → steps_to_ready self.old.world ≤ most_recovery self.old.world }
-        ensures falls { result ≡ Ok false → steps_to_ready self.new.world < steps_to_ready self.old.world }
-        ensures more { result ≡ Ok false → 0 < steps_to_ready self.new.world }
+        ensures going { result ≡ Ok false → GoesOnRecovering self.old self.new lines.old.items lines.new.items }
         ensures play { result ≡ Ok true → EndsAtNextStep self.old self.new }
         ensures lines { result ≡ Ok true → AddsLastLines self.old lines.old.items lines.new.items }
         ensures errors { IfErr result (λ e. e ≡ Refusal.NoMemory) }

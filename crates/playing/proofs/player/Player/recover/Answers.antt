@@ -17,18 +17,18 @@ loop-init c =
     record { left = most_recovery c.args.self.now.world; enough = inl refl; leads = refl; gives = refl }
 
 pub loop-smaller : goal.loop-smaller
-loop-smaller c = c.recover_step.ensures.falls (c.in_ok-recover_step.was ∙ ap Ok c.if-not-branch.true)
+loop-smaller c = (c.recover_step.ensures.going (c.in_ok-recover_step.was ∙ ap Ok c.if-not-branch.true)).falls
 
 pub loop-preserved : goal.loop-preserved
 loop-preserved c =
     let play : Play = c.loop.self in
     let next : Play = c.recover_step.new.self in
     let is : c.recover_step.result ≡ Ok false = c.in_ok-recover_step.was ∙ ap Ok c.if-not-branch.true in
-    let going : recover_result false play.world ≡ Ok false = c.recover_step.ensures.goes_on is in
-    let same : next ≡ play_after_recovery_step play = c.recover_step.ensures.next is in
-    let few : steps_to_ready play.world ≤ most_recovery play.world = c.recover_step.ensures.few is in
-    let falls : steps_to_ready next.world < steps_to_ready play.world = c.recover_step.ensures.falls is in
-    let more : 0 < steps_to_ready next.world = c.recover_step.ensures.more is in
+    let going : recover_result false play.world ≡ Ok false = (c.recover_step.ensures.going is).goes_on in
+    let same : next ≡ play_after_recovery_step play = (c.recover_step.ensures.going is).next in
+    let few : steps_to_ready play.world ≤ most_recovery play.world = (c.recover_step.ensures.going is).few in
+    let falls : steps_to_ready next.world < steps_to_ready play.world = (c.recover_step.ensures.going is).falls in
+    let more : 0 < steps_to_ready next.world = (c.recover_step.ensures.going is).needs in
     let enough : steps_to_ready play.world ≤ c.loop.invariant.left =
     elim c.loop.invariant.enough [ inl all ↦ omega arith | inr some ↦ some.1 ] in
     let rest : ℕ = c.loop.invariant.left - 1 in
@@ -38,7 +38,7 @@ loop-preserved c =
       enough = inr (more, omega arith);
       leads = leads_on rest play next going same ∙ ap (λ n. after_recovery n play) left ∙ c.loop.invariant.leads;
       gives =
-          ap (λ ls. ls ++ recovery_lines rest next) (c.recover_step.ensures.same_lines is)
+          ap (λ ls. ls ++ recovery_lines rest next) ((c.recover_step.ensures.going is).same_lines)
           ∙ ap (λ ls. c.loop.lines.items ++ ls)
           (gives_on rest play next going same ∙ ap (λ n. recovery_lines n play) left)
           ∙ c.loop.invariant.gives;

@@ -13,12 +13,12 @@ loop-preserved c =
     let rest : ℕ = c.args.most - (c.loop.counter + 1) in
     let left : suc rest ≡ c.args.most - c.loop.counter = omega arith in
     let is : c.recover_step.result ≡ Ok false = c.in_ok-recover_step.was ∙ ap Ok c.if-branch.false in
-    let going : recover_result false play.world ≡ Ok false = c.recover_step.ensures.goes_on is in
-    let same : next ≡ play_after_recovery_step play = c.recover_step.ensures.next is in
+    let going : recover_result false play.world ≡ Ok false = (c.recover_step.ensures.going is).goes_on in
+    let same : next ≡ play_after_recovery_step play = (c.recover_step.ensures.going is).next in
     record {
       leads = leads_on rest play next going same ∙ ap (λ n. after_recovery n play) left ∙ c.loop.invariant.leads;
       gives =
-          ap (λ ls. ls ++ recovery_lines rest next) (c.recover_step.ensures.same_lines is)
+          ap (λ ls. ls ++ recovery_lines rest next) ((c.recover_step.ensures.going is).same_lines)
           ∙ ap (λ ls. c.loop.lines.items ++ ls)
           (gives_on rest play next going same ∙ ap (λ n. recovery_lines n play) left)
           ∙ c.loop.invariant.gives;
