@@ -3,11 +3,11 @@
 use crate::turns::Load;
 use anyhow::Result;
 use arena::{Layout, SlotId};
-use directory::CREATION_STEPS;
 use interleave::World;
 use named::Broker;
 use std::alloc::Global;
 use std::time::Instant;
+use test_support::brokers::create;
 use test_support::item;
 use words::{Call, Client, Refusal, Reply};
 
@@ -87,12 +87,7 @@ fn last_of_eight(alloc: Global, layout: &Layout) -> Result<Named, Refusal> {
     let names: [&[u8]; 8] = [b"a", b"b", b"c", b"d", b"e", b"f", b"g", b"h"];
     let mut slot = SlotId(0);
     for name in names {
-        broker.create(name, layout.kind())?;
-        for _ in 0..CREATION_STEPS {
-            if let Some(opened) = broker.create_step()? {
-                slot = opened;
-            }
-        }
+        slot = create(&mut broker, name, layout.kind())?;
     }
     Ok(Named { broker, slot })
 }

@@ -20,16 +20,33 @@ fn step_through(session: &mut Session, queue: SlotId, call: Call) -> Result<u64,
     Err(Refusal::Busy)
 }
 
-/// A turn of calls that the client makes step by step. An enqueue and a dequeue go to one queue, the next two to the
-/// next queue.
-pub(crate) fn stepped<R: Clock + AllocGlobal>(rt: &R, work: Work) -> Result<Figures> {
-    let mut session = session_for(rt.alloc(), work)?;
+/// Calls that the client makes step by step. How many acts they were. An enqueue and a dequeue go to one queue, the next
+/// two to the next queue.
+fn all_stepped(session: &mut Session, work: Work) -> Result<u64, Refusal> {
     let mut acts = 0u64;
-    let begun = Instant::now(rt)?;
     for number in 0..work.calls {
         let queue = work.queue(number / 2);
-        acts = acts.saturating_add(step_through(&mut session, queue, call_of(number))?);
+        acts = acts.saturating_add(step_through(session, queue, call_of(number))?);
     }
+    Ok(acts)
+}
+
+/// The same calls, which the session runs to their ends.
+fn all_run(session: &mut Session, work: Work) -> Result<u64, Refusal> {
+    for number in 0..work.calls {
+        session.plain(CLIENT, work.queue(number / 2), call_of(number))?;
+    }
+    Ok(0)
+}
+
+/// How long calls took, and how many acts they were.
+fn timed<R: Clock>(rt: &R, session: &mut Session, work: Work, by_steps: bool) -> Result<Figures> {
+    let begun = Instant::now(rt)?;
+    let acts = if by_steps {
+        all_stepped(session, work)?
+    } else {
+        all_run(session, work)?
+    };
     Ok(Figures {
         nanoseconds: begun.elapsed(rt)?.as_nanos(),
         answered: u64::from(work.calls),
@@ -37,16 +54,8 @@ pub(crate) fn stepped<R: Clock + AllocGlobal>(rt: &R, work: Work) -> Result<Figu
     })
 }
 
-/// A turn of calls that the session runs to their ends.
-pub(crate) fn whole<R: Clock + AllocGlobal>(rt: &R, work: Work) -> Result<Figures> {
+/// A turn of calls that the client makes step by step, or that the session runs to their ends.
+pub(crate) fn alone<R: Clock + AllocGlobal>(rt: &R, work: Work, by_steps: bool) -> Result<Figures> {
     let mut session = session_for(rt.alloc(), work)?;
-    let begun = Instant::now(rt)?;
-    for number in 0..work.calls {
-        session.plain(CLIENT, work.queue(number / 2), call_of(number))?;
-    }
-    Ok(Figures {
-        nanoseconds: begun.elapsed(rt)?.as_nanos(),
-        answered: u64::from(work.calls),
-        acts: 0,
-    })
+    timed(rt, &mut session, work, by_steps)
 }

@@ -22,14 +22,20 @@ fn turn(rt: &HostRuntime, memory: &mut Memory) -> Result<u128> {
     Ok(begun.elapsed(rt)?.as_nanos())
 }
 
+/// The best of so many turns, and of one at least.
+fn best(rt: &HostRuntime, memory: &mut Memory, turns: u32) -> Result<u128> {
+    let mut best = turn(rt, memory)?;
+    for _ in 1..turns {
+        best = best.min(turn(rt, memory)?);
+    }
+    Ok(best)
+}
+
 /// Prints how many nanoseconds a crash took at best in a memory of so many words, the stores before it too, or without
 /// a number of turns only how many words are changed after one.
 pub(crate) fn run(rt: &HostRuntime, words: usize, turns: Option<u32>) -> Result<()> {
     let mut memory = Memory::new(rt.alloc(), words)?;
-    let mut best = turn(rt, &mut memory)?;
-    for _ in 1..turns.unwrap_or(1) {
-        best = best.min(turn(rt, &mut memory)?);
-    }
+    let best = best(rt, &mut memory, turns.unwrap_or(1))?;
     match turns {
         Some(_) => println!(rt; "{}", best / u128::from(CRASHES))?,
         None => println!(rt; "{words} words, {} changed after a crash", memory.changed())?,

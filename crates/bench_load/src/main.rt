@@ -24,6 +24,9 @@ use anyhow::Result;
 use clap::ArgMatches;
 use std::env;
 use std::process::ExitCode;
+use std::sync::Wait;
+use std::thread::Threads;
+use std::time::Clock;
 use words::{Kind, MAX_RECORDS};
 
 /// Plays a load so many times, and prints what its best turn took, or without a number only what it came to.
@@ -107,34 +110,58 @@ fn small_ones(rt: &HostRuntime) -> Result<()> {
     load.run(rt, 1)
 }
 
+/// `bench_load restart CLIENTS RECORDS [TURNS]`
+fn play_restarts(rt: &HostRuntime, words: &ArgMatches<'_>) -> Result<()> {
+    let turns = words.get_one("turns");
+    restarts::run(rt, count(words, "clients"), count(words, "records"), turns)
+}
+
+/// `bench_load crash WORDS [TURNS]`
+fn play_crashes(rt: &HostRuntime, words: &ArgMatches<'_>) -> Result<()> {
+    crashes::run(rt, count(words, "words") as usize, words.get_one("turns"))
+}
+
+/// Plays the load that was asked for, or without one a small load of each, but for those of sessions.
+fn play(rt: &HostRuntime, asked: &ArgMatches<'_>) -> Result<()> {
+    match asked.subcommand() {
+        Some(("acts", words)) => play_acts(rt, words, false),
+        Some(("slots", words)) => play_acts(rt, words, true),
+        Some(("restart", words)) => play_restarts(rt, words),
+        Some(("recover", words)) => play_recovery(rt, words),
+        Some(("crash", words)) => play_crashes(rt, words),
+        Some(("check", words)) => play_checks(rt, words),
+        Some(_) => Ok(()),
+        None => small_ones(rt),
+    }
+}
+
+/// The same of sessions.
+fn play_calls<R: Threads + Wait + Clock + AllocGlobal + Print + Sync>(
+    rt: &R,
+    asked: &ArgMatches<'_>,
+) -> Result<()> {
+    match asked.subcommand() {
+        Some(("threads", words)) => measure(rt, By::Threads(count(words, "threads")), words),
+        Some(("alone", words)) => measure(rt, By::Steps, words),
+        Some(("plain", words)) => measure(rt, By::Calls, words),
+        Some(_) => Ok(()),
+        None => few(rt),
+    }
+}
+
+/// How the program ends where its words ask for nothing that it does.
+fn explained(rt: &HostRuntime, error: &clap::Error) -> Result<ExitCode> {
+    error.print(rt)?;
+    Ok(ExitCode::from(error.exit_code() as u8))
+}
+
 fn main(rt: HostRuntime) -> Result<ExitCode> {
     let words: Vec<String> = env::args(&rt)?.collect(rt.alloc())?;
-    let asked = match matches(rt.alloc(), &words) {
-        Ok(asked) => asked,
-        Err(error) => {
-            error.print(&rt)?;
-            return Ok(ExitCode::from(error.exit_code() as u8));
+    match matches(rt.alloc(), &words) {
+        Ok(asked) => {
+            play(&rt, &asked)?;
+            play_calls(&rt, &asked).map(|()| ExitCode::SUCCESS)
         }
-    };
-    match asked.subcommand() {
-        Some(("acts", words)) => play_acts(&rt, words, false)?,
-        Some(("slots", words)) => play_acts(&rt, words, true)?,
-        Some(("restart", words)) => {
-            let turns = words.get_one("turns");
-            restarts::run(&rt, count(words, "clients"), count(words, "records"), turns)?;
-        }
-        Some(("recover", words)) => play_recovery(&rt, words)?,
-        Some(("crash", words)) => {
-            crashes::run(&rt, count(words, "words") as usize, words.get_one("turns"))?;
-        }
-        Some(("check", words)) => play_checks(&rt, words)?,
-        Some(("threads", words)) => measure(&rt, By::Threads(count(words, "threads")), words)?,
-        Some(("alone", words)) => measure(&rt, By::Steps, words)?,
-        Some(("plain", words)) => measure(&rt, By::Calls, words)?,
-        _ => {
-            small_ones(&rt)?;
-            few(&rt)?;
-        }
+        Err(error) => explained(&rt, &error),
     }
-    Ok(ExitCode::SUCCESS)
 }

@@ -44,22 +44,27 @@ fn recover(world: &mut World) -> Result<u64, Refusal> {
     Ok(u64::MAX)
 }
 
+/// What the crash of a world took, and its recovery.
+fn crashed(rt: &HostRuntime, world: &mut World) -> Result<RecoveryFigures> {
+    let begun = Instant::now(rt)?;
+    world.crash()?;
+    let crash = begun.elapsed(rt)?.as_nanos();
+    let begun = Instant::now(rt)?;
+    let steps = recover(world)?;
+    let recovery = begun.elapsed(rt)?.as_nanos();
+    Ok(RecoveryFigures {
+        steps,
+        crash,
+        recovery,
+    })
+}
+
 impl Load for Recovery {
     type Figures = RecoveryFigures;
 
     fn turn(&self, rt: &HostRuntime, layout: Layout) -> Result<RecoveryFigures> {
         let mut world = filled(rt.alloc(), layout, self.nodes)?;
-        let begun = Instant::now(rt)?;
-        world.crash()?;
-        let crash = begun.elapsed(rt)?.as_nanos();
-        let begun = Instant::now(rt)?;
-        let steps = recover(&mut world)?;
-        let recovery = begun.elapsed(rt)?.as_nanos();
-        Ok(RecoveryFigures {
-            steps,
-            crash,
-            recovery,
-        })
+        crashed(rt, &mut world)
     }
 
     fn better(&self, one: RecoveryFigures, other: RecoveryFigures) -> RecoveryFigures {

@@ -2,9 +2,9 @@
 
 use anyhow::Result;
 use arena::SlotId;
-use directory::CREATION_STEPS;
 use named::Broker;
 use std::time::Instant;
+use test_support::brokers::{create, recover};
 use test_support::item;
 use words::{Call, Client, Kind, Refusal};
 
@@ -14,47 +14,31 @@ const CRASHES: u64 = 60;
 /// How many steps a call makes before the crash.
 const STEPS: u32 = 7;
 
-/// How many steps a recovery may take here: the directory's, and those of a queue with no more values than crashes.
-const MOST_STEPS: u32 = 1_000;
-
-/// Recovery to its end. How many steps it took.
-fn recover(broker: &mut Broker) -> Result<u32, Refusal> {
-    for steps in 1..=MOST_STEPS {
-        if broker.recover_step()? {
-            return Ok(steps);
-        }
+/// A call begins, makes some steps, and is cut off by a crash, which recovery follows. How many steps that took.
+fn cut_off(broker: &mut Broker, slot: SlotId) -> Result<u32, Refusal> {
+    broker.start(slot, Client(0), 0, Call::Enq(item(7)))?;
+    for _ in 0..STEPS {
+        broker.step(slot, Client(0))?;
     }
-    Err(Refusal::NotReady)
+    broker.crash()?;
+    recover(broker)
 }
 
-/// A broker with one queue.
-fn broker(rt: &HostRuntime, clients: u32, records: u32) -> Result<(Broker, SlotId)> {
-    let mut broker = Broker::make(rt.alloc(), clients, records)?;
-    broker.create(b"q", Kind::Durable)?;
-    let mut slot = SlotId(0);
-    for _ in 0..CREATION_STEPS {
-        if let Some(opened) = broker.create_step()? {
-            slot = opened;
-        }
-    }
-    Ok((broker, slot))
-}
-
-/// A turn: a call begins, makes some steps, and is cut off by a crash, which recovery follows. How many nanoseconds
-/// that took, and how many steps the last recovery did.
-fn turn(rt: &HostRuntime, clients: u32, records: u32) -> Result<(u128, u32)> {
-    let (mut broker, slot) = broker(rt, clients, records)?;
+/// One crash after another. How many nanoseconds they took, and how many steps the last recovery did.
+fn restarted(rt: &HostRuntime, broker: &mut Broker, slot: SlotId) -> Result<(u128, u32)> {
     let mut steps = 0;
     let begun = Instant::now(rt)?;
     for _ in 0..CRASHES {
-        broker.start(slot, Client(0), 0, Call::Enq(item(7)))?;
-        for _ in 0..STEPS {
-            broker.step(slot, Client(0))?;
-        }
-        broker.crash()?;
-        steps = recover(&mut broker)?;
+        steps = cut_off(broker, slot)?;
     }
     Ok((begun.elapsed(rt)?.as_nanos(), steps))
+}
+
+/// A turn, on a broker with one queue.
+fn turn(rt: &HostRuntime, clients: u32, records: u32) -> Result<(u128, u32)> {
+    let mut broker = Broker::make(rt.alloc(), clients, records)?;
+    let slot = create(&mut broker, b"q", Kind::Durable)?;
+    restarted(rt, &mut broker, slot)
 }
 
 /// Prints how many nanoseconds a call, a crash and its recovery took at best, or without a number of turns only how

@@ -33,7 +33,27 @@ fn answered<J: Naming, R: Wait>(rt: &R, shared: &Shared<J>, seat: Seat<J>, work:
     answered
 }
 
-/// A turn of so many clients, once the session has its name.
+/// A turn of so many clients.
+fn timed<J: Naming + Send + Sync, R: Threads + Wait + Clock + AllocGlobal + Sync>(
+    rt: &R,
+    shared: &Shared<J>,
+    mut seats: Vec<Seat<J>>,
+    threads: u32,
+    work: Work,
+) -> Result<Figures> {
+    seats.truncate(threads as usize);
+    let begun = Instant::now(rt)?;
+    let counts = map_vec(rt, seats, &|seat| answered(rt, shared, seat, work))?;
+    Ok(Figures {
+        nanoseconds: begun.elapsed(rt)?.as_nanos(),
+        answered: counts
+            .iter()
+            .fold(0u64, |sum, count| sum.saturating_add(*count)),
+        acts: 0,
+    })
+}
+
+/// A turn, once the session has its name.
 fn turn<J: Naming + Send + Sync, R: Threads + Wait + Clock + AllocGlobal + Sync>(
     rt: &R,
     opened: Opened,
@@ -42,20 +62,10 @@ fn turn<J: Naming + Send + Sync, R: Threads + Wait + Clock + AllocGlobal + Sync>
 ) -> Result<Figures>
     requires { IsNameOf J.roll J.clients J.first opened }
 {
-    let (shared, mut seats, _operator) = match opened.named::<J>(rt.alloc()) {
-        Ok(named) => named,
-        Err(not) => return Err(not.refusal.into()),
-    };
-    seats.truncate(threads as usize);
-    let begun = Instant::now(rt)?;
-    let counts = map_vec(rt, seats, &|seat| answered(rt, &shared, seat, work))?;
-    Ok(Figures {
-        nanoseconds: begun.elapsed(rt)?.as_nanos(),
-        answered: counts
-            .iter()
-            .fold(0u64, |sum, count| sum.saturating_add(*count)),
-        acts: 0,
-    })
+    match opened.named::<J>(rt.alloc()) {
+        Ok((shared, seats, _operator)) => timed(rt, &shared, seats, threads, work),
+        Err(not) => Err(not.refusal.into()),
+    }
 }
 
 /// A turn of so many clients on a new session.

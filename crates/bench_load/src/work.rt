@@ -2,19 +2,16 @@
 
 use arena::SlotId;
 use directory::Name;
-use named::Broker;
 use session::Session;
 use std::alloc::Global;
 use test_support::item;
+use test_support::sessions::{create, new_session};
 use words::{Call, Kind, Refusal};
 
 /// How many clients the broker has, and how many records each of them has in a queue.
 const CLIENTS: u32 = 16;
 
 const RECORDS: u32 = 4_096;
-
-/// How many steps the creation of a queue may take here.
-const MOST_STEPS: u32 = 100;
 
 /// On how many queues, and how many calls each client makes.
 #[derive(Clone, Copy)]
@@ -67,28 +64,12 @@ impl Work {
     }
 }
 
-/// A new queue.
-fn create(session: &mut Session, name: &[u8]) -> Result<(), Refusal> {
-    session.create(name, Kind::Durable)?;
-    for _ in 0..MOST_STEPS {
-        if session.create_step()?.is_some() {
-            return Ok(());
-        }
-    }
-    Err(Refusal::NoQueue)
-}
-
-/// A session over a new broker, with no queue yet.
-fn over_a_broker(alloc: Global) -> Result<Session, Refusal> {
-    Ok(Session::open(Broker::make(alloc, CLIENTS, RECORDS)?))
-}
-
 /// A session over a new broker with as many durable queues.
 pub(crate) fn session_for(alloc: Global, work: Work) -> Result<Session, Refusal> {
-    let mut session = over_a_broker(alloc)?;
+    let mut session = new_session(alloc, CLIENTS, RECORDS)?;
     let names: [&[u8]; 8] = [b"a", b"b", b"c", b"d", b"e", b"f", b"g", b"h"];
     for name in names.iter().take(work.count()) {
-        create(&mut session, name)?;
+        create(&mut session, name, Kind::Durable)?;
     }
     Ok(session)
 }
