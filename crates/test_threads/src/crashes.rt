@@ -1,7 +1,8 @@
 //! Crashes that come between two steps of a call, from another thread.
 
-ghost use Rattle.std.specs.Prelude.{◌≡◌};
+ghost use Rattle.std.specs.Prelude.{◌≡◌, IfOk};
 ghost use Rattle.workers.specs.Opening.{IsNameOf};
+ghost use Rattle.workers.specs.Seats.{AreAllInOrder};
 
 use crate::asking::{
     Hold, asked, cut_off as entry_cut_off, held_over_a_crash, numbered, ran, repeated,
@@ -22,7 +23,7 @@ use test_support::item;
 use test_support::sessions::{A, with_queue};
 use test_support::steps::{LOG_ENQUEUE_ANNOUNCED, LOG_LINK_KEPT};
 use words::{Call, Client, Kind, Refusal, Reply, Told, Value};
-use workers::{Answer, Naming, OpenGate, Opened, Request};
+use workers::{Answer, Naming, OpenGate, Opened, Operator, Request, Seat, Shared};
 
 /// A crash, and recovery, while the only client's call stands still after so many steps. Then the client is told this.
 #[derive(Clone, Copy)]
@@ -30,6 +31,37 @@ struct CutOff {
     ask: Request,
     steps: u64,
     told: Told,
+}
+
+/// The crash, and what the client is answered and told then. It has no call to finish, and its list has the one that
+/// was cut off.
+fn stopped<J: Naming + Send + Sync, R: Threads + Wait + Clock + Abort + Sync>(
+    rt: &R,
+    alloc: Global,
+    shared: &Shared<J>,
+    operator: Operator<J>,
+    seats: Vec<Seat<J>>,
+    case: CutOff,
+) -> Result<Vec<Seat<J>>, Fail>
+    requires { AreAllInOrder (λ seat. seat.client) J.clients seats.items }
+    ensures { IfOk result (λ seats. AreAllInOrder (λ seat. seat.client) J.clients seats.items) }
+{
+    let (ask, steps) = (case.ask, case.steps);
+    let seat = only(seats).ok_or("one seat")?;
+    let hold = Hold { ask, steps };
+    let ((seat, answer), in_time) = held_over_a_crash(rt, shared, operator, seat, hold);
+    let told = shared.told(rt, Client(0), &ask.name).0;
+    let (seat, none) = shared.finish(rt, seat, &OpenGate);
+    let right = in_time
+        && answer == Answer::Interrupted
+        && told == Ok(case.told)
+        && none == Answer::Refused(Refusal::Idle)
+        && seat.list.as_slice() == [entry_cut_off(ask, 0)].as_slice();
+    assert!(rt;
+        right,
+        "after {steps} steps: {answer:?}, {told:?}, {none:?}"
+    );
+    Ok(alone(alloc, seat)?)
 }
 
 fn cut_off<J: Naming + Send + Sync, R: Threads + Wait + Clock + Abort + Sync>(
@@ -42,25 +74,8 @@ fn cut_off<J: Naming + Send + Sync, R: Threads + Wait + Clock + Abort + Sync>(
     requires { IsNameOf J.roll J.clients J.first opened }
 {
     let (shared, seats, operator) = begun::<J>(alloc, opened)?;
-    let (ask, steps) = (case.ask, case.steps);
-    let seat = only(seats).ok_or("one seat")?;
-    let hold = Hold { ask, steps };
-    let ((seat, answer), in_time) = held_over_a_crash(rt, &shared, operator, seat, hold);
-    assert!(rt; in_time, "after {steps} steps");
-    assert_eq!(rt; answer, Answer::Interrupted, "after {steps} steps");
-    assert!(rt;
-        seat.list.as_slice() == [entry_cut_off(ask, 0)].as_slice(),
-        "after {steps} steps"
-    );
-    let told = shared.told(rt, Client(0), &ask.name).0?;
-    assert_eq!(rt; told, case.told, "after {steps} steps");
-    let (seat, answer) = shared.finish(rt, seat, &OpenGate);
-    assert_eq!(rt;
-        answer,
-        Answer::Refused(Refusal::Idle),
-        "after {steps} steps"
-    );
-    ended(alloc, shared, alone(alloc, seat)?, since)
+    let seats = stopped(rt, alloc, &shared, operator, seats, case)?;
+    ended(alloc, shared, seats, since)
 }
 
 /// The only client makes this call, which is answered so: it runs, or is answered from what is kept.
@@ -69,6 +84,30 @@ struct Next {
     ask: Request,
     reply: Reply,
     runs: bool,
+}
+
+/// The call, and what the client's list has of it.
+fn sent<J: Naming, R: Wait + Abort>(
+    rt: &R,
+    alloc: Global,
+    shared: &Shared<J>,
+    seats: Vec<Seat<J>>,
+    next: Next,
+) -> Result<Vec<Seat<J>>, Fail>
+    requires { AreAllInOrder (λ seat. seat.client) J.clients seats.items }
+    ensures { IfOk result (λ seats. AreAllInOrder (λ seat. seat.client) J.clients seats.items) }
+{
+    let seat = only(seats).ok_or("one seat")?;
+    let (seat, answer) = asked(rt, shared, seat, next.ask);
+    // Three events came before: the call that was cut off, the crash and the recovery.
+    let entry = if next.runs {
+        ran(next.ask, 3, next.reply)
+    } else {
+        repeated(next.ask, next.reply)
+    };
+    let right = answer == Answer::Reply(next.reply) && seat.list.as_slice() == [entry].as_slice();
+    assert!(rt; right, "{answer:?}");
+    Ok(alone(alloc, seat)?)
 }
 
 fn goes_on<J: Naming + Send + Sync, R: Threads + Wait + Clock + Abort + Sync>(
@@ -81,17 +120,8 @@ fn goes_on<J: Naming + Send + Sync, R: Threads + Wait + Clock + Abort + Sync>(
     requires { IsNameOf J.roll J.clients J.first opened }
 {
     let (shared, seats, _operator) = begun::<J>(alloc, opened)?;
-    let seat = only(seats).ok_or("one seat")?;
-    let (seat, answer) = asked(rt, &shared, seat, next.ask);
-    assert_eq!(rt; answer, Answer::Reply(next.reply));
-    // Three events came before: the call that was cut off, the crash and the recovery.
-    let entry = if next.runs {
-        ran(next.ask, 3, next.reply)
-    } else {
-        repeated(next.ask, next.reply)
-    };
-    assert!(rt; seat.list.as_slice() == [entry].as_slice());
-    ended(alloc, shared, alone(alloc, seat)?, since)
+    let seats = sent(rt, alloc, &shared, seats, next)?;
+    ended(alloc, shared, seats, since)
 }
 
 /// That on this session.
@@ -147,18 +177,18 @@ fn number_cut_off<R: Threads + Wait + Clock + Abort + Sync>(
         steps: u64::from(steps),
         told: wanted(steps),
     };
-    let session = with_queue(alloc, Kind::Log, 1, 2)?;
-    let session = cut_off_in(rt, alloc, session, cut_off)?;
     let nine = [item(9)];
     let values: &[Value] = if is_taken { &nine } else { &[] };
-    assert!(rt; holds(&session, values)?, "after {steps} steps");
     let next = Next {
         ask,
         reply: Reply::Done,
         runs: !is_taken,
     };
+    let session = with_queue(alloc, Kind::Log, 1, 2)?;
+    let session = cut_off_in(rt, alloc, session, cut_off)?;
+    let held = holds(&session, values)?;
     let session = gone_on(rt, alloc, session, next)?;
-    assert!(rt; holds(&session, &nine)?, "after {steps} steps");
+    assert!(rt; held && holds(&session, &nine)?, "after {steps} steps");
     Ok(())
 }
 

@@ -133,16 +133,28 @@ fn is_so<J: Naming, R: Wait>(
     })
 }
 
-/// Two threads create queues, while a third crashes the broker and recovers it.
-fn created_beside_crashes<J: Naming + Send + Sync, R: Threads + Wait + Clock + Abort + Sync>(
+/// Whether all that creations came to is so, and all eight slots have a queue.
+fn are_so<J: Naming, R: Wait>(
     rt: &R,
-    alloc: Global,
-    opened: Opened,
-    since: &Lengths,
-) -> Result<Played, Fail>
-    requires { IsNameOf J.roll J.clients J.first opened }
-{
-    let (shared, seats, operator) = begun::<J>(alloc, opened)?;
+    shared: &Shared<J>,
+    first: &[Option<Created>; 4],
+    second: &[Option<Created>; 4],
+) -> Result<bool, Refusal> {
+    let mut right = count(&shared.list(rt)?) == 8;
+    for place in 0..4 {
+        right &= is_so(rt, shared, FIRST[place], first[place])?;
+        right &= is_so(rt, shared, SECOND[place], second[place])?;
+    }
+    Ok(right)
+}
+
+/// Two threads create queues, while a third crashes the broker and recovers it. Whether it always could, and what they
+/// came to is so.
+fn created_by_two<J: Naming + Send + Sync, R: Threads + Wait + Clock + Sync>(
+    rt: &R,
+    shared: &Shared<J>,
+    operator: Operator<J>,
+) -> Result<bool, Refusal> {
     let signals = Signals {
         begun: AtomicU64::new(0),
         over: AtomicU64::new(0),
@@ -152,21 +164,26 @@ fn created_beside_crashes<J: Naming + Send + Sync, R: Threads + Wait + Clock + A
         || {
             join(
                 rt,
-                || created_beside(rt, &shared, &signals, &FIRST),
-                || created_beside(rt, &shared, &signals, &SECOND),
+                || created_beside(rt, shared, &signals, &FIRST),
+                || created_beside(rt, shared, &signals, &SECOND),
             )
         },
-        || restarts(rt, &shared, operator, &signals),
+        || restarts(rt, shared, operator, &signals),
     );
-    assert!(rt; right, "restarts");
-    for place in 0..4 {
-        assert!(rt; is_so(rt, &shared, FIRST[place], first[place])?, "{place}");
-        assert!(rt;
-            is_so(rt, &shared, SECOND[place], second[place])?,
-            "{place}"
-        );
-    }
-    assert_eq!(rt; count(&shared.list(rt)?), 8, "queues");
+    Ok(right && are_so(rt, shared, &first, &second)?)
+}
+
+/// That on a shared session.
+fn created_beside_crashes<J: Naming + Send + Sync, R: Threads + Wait + Clock + Abort + Sync>(
+    rt: &R,
+    alloc: Global,
+    opened: Opened,
+    since: &Lengths,
+) -> Result<Played, Fail>
+    requires { IsNameOf J.roll J.clients J.first opened }
+{
+    let (shared, seats, operator) = begun::<J>(alloc, opened)?;
+    assert!(rt; created_by_two(rt, &shared, operator)?, "creations");
     ended(alloc, shared, seats, since)
 }
 

@@ -1,7 +1,8 @@
 //! Calls that a gate holds back while others are answered: no lock is held between two steps.
 
-ghost use Rattle.std.specs.Prelude.{◌≡◌};
+ghost use Rattle.std.specs.Prelude.{◌≡◌, IfOk};
 ghost use Rattle.workers.specs.Opening.{IsNameOf};
+ghost use Rattle.workers.specs.Seats.{AreAllInOrder};
 
 use crate::asking::{Hold, held_beside, plain, ran};
 use crate::lists::{Lengths, lengths};
@@ -19,7 +20,7 @@ use test_support::sessions::{A, with_queue};
 use test_support::steps::{DURABLE_CLAIMED, DURABLE_LINKED};
 use test_support::{Said, Wish, are_items, item};
 use words::{Call, Client, Kind};
-use workers::{Answer, Naming, Opened};
+use workers::{Answer, Naming, Opened, Seat, Shared};
 
 /// In a durable queue that holds some values client 0's call stands still after so many steps until client 1's of the
 /// same kind is answered. Which replies both get, and what the queue holds then.
@@ -50,6 +51,33 @@ static STORIES: [Story; 2] = [
     },
 ];
 
+/// Both calls, of which the held one begins at this place of the history.
+fn beside<J: Naming + Send + Sync, R: Threads + Wait + Clock + Abort + Sync>(
+    rt: &R,
+    alloc: Global,
+    shared: &Shared<J>,
+    seats: Vec<Seat<J>>,
+    place: usize,
+    story: Story,
+) -> Result<Vec<Seat<J>>, Fail>
+    requires { AreAllInOrder (λ seat. seat.client) J.clients seats.items }
+    ensures { IfOk result (λ seats. AreAllInOrder (λ seat. seat.client) J.clients seats.items) }
+{
+    let (zero, one) = taken_apart(seats).ok_or("two seats")?;
+    let (ask, other) = (plain(story.calls.0.call())?, plain(story.calls.1.call())?);
+    let steps = u64::from(story.steps);
+    let hold = Hold { ask, steps };
+    let ((zero, first), (one, second), in_time) = held_beside(rt, shared, zero, hold, one, other);
+    let (held, whole) = (story.replies.0.reply(), story.replies.1.reply());
+    let right = in_time
+        && second == Answer::Reply(whole)
+        && first == Answer::Reply(held)
+        && zero.list.as_slice() == [ran(ask, place, held)].as_slice()
+        && one.list.as_slice() == [ran(other, place.saturating_add(1), whole)].as_slice();
+    assert!(rt; right, "{first:?}, {second:?}");
+    Ok(put_together(alloc, zero, one)?)
+}
+
 fn held<J: Naming + Send + Sync, R: Threads + Wait + Clock + Abort + Sync>(
     rt: &R,
     alloc: Global,
@@ -60,22 +88,8 @@ fn held<J: Naming + Send + Sync, R: Threads + Wait + Clock + Abort + Sync>(
     requires { IsNameOf J.roll J.clients J.first opened }
 {
     let (shared, seats, _operator) = begun::<J>(alloc, opened)?;
-    let (zero, one) = taken_apart(seats).ok_or("two seats")?;
-    let (ask, other) = (plain(story.calls.0.call())?, plain(story.calls.1.call())?);
-    let hold = Hold {
-        ask,
-        steps: u64::from(story.steps),
-    };
-    let ((zero, first), (one, second), in_time) = held_beside(rt, &shared, zero, hold, one, other);
-    assert!(rt; in_time);
-    let (held, whole) = story.replies;
-    assert_eq!(rt; second, Answer::Reply(whole.reply()));
-    assert_eq!(rt; first, Answer::Reply(held.reply()));
-    let place = since[0];
-    assert!(rt; zero.list.as_slice() == [ran(ask, place, held.reply())].as_slice());
-    let next = place.saturating_add(1);
-    assert!(rt; one.list.as_slice() == [ran(other, next, whole.reply())].as_slice());
-    ended(alloc, shared, put_together(alloc, zero, one)?, since)
+    let seats = beside(rt, alloc, &shared, seats, since[0], story)?;
+    ended(alloc, shared, seats, since)
 }
 
 /// That on this session.

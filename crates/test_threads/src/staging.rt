@@ -41,6 +41,17 @@ pub(crate) fn begun<J: Naming>(
     }
 }
 
+/// Whether the lists fit the histories since these places, and orders explain these.
+fn are_right(
+    alloc: Global,
+    session: &Session,
+    lists: &[Vec<Entry>],
+    since: &Lengths,
+) -> Result<bool, Fail> {
+    let fit = are_accounted_for(alloc, session, lists, since)?;
+    Ok(fit && are_explained(alloc, session.broker())?)
+}
+
 /// The session is taken back. The lists have to fit the histories since these places, and orders have to explain these.
 pub(crate) fn ended<J: Naming>(
     alloc: Global,
@@ -52,11 +63,8 @@ pub(crate) fn ended<J: Naming>(
 {
     let lists = copied(alloc, seats.as_slice())?;
     let session = shared.close(seats);
-    if !are_accounted_for(alloc, &session, lists.as_slice(), since)? {
-        return Err(Fail::new("lists"));
+    if are_right(alloc, &session, lists.as_slice(), since)? {
+        return Ok(Played { session, lists });
     }
-    if !are_explained(alloc, session.broker())? {
-        return Err(Fail::new("orders"));
-    }
-    Ok(Played { session, lists })
+    Err(Fail::new("lists or orders"))
 }
