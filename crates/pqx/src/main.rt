@@ -129,23 +129,35 @@ fn follow_script(rt: &HostRuntime, asked: RunOptions<'_>) -> Result<(), Refusal>
     fs::write(rt, path, &page).map_err(|_| Refusal::WriteFailed)
 }
 
+/// Prints what becomes of each call that stops, where it goes on alone.
+fn print_alone(rt: &HostRuntime) -> Result<(), Refusal> {
+    let mut reader = CountedReader::new(rt.reader());
+    let mut writer = CountedWriter::new(io::writer(rt));
+    script_reports::run_alone(rt.alloc(), &mut reader, &mut writer)
+}
+
+/// Follows a whole broker's script.
+fn follow_broker(rt: &HostRuntime) -> Result<(), Refusal> {
+    let mut reader = CountedReader::new(rt.reader());
+    let mut writer = CountedWriter::new(io::writer(rt));
+    broker_script::run(rt.alloc(), &mut reader, &mut writer)
+}
+
 /// Does what was asked for, and answers with which status to end.
 fn answer<H: Threads + Sync>(
     threads: &H,
     rt: &HostRuntime,
     asked: PqxAsked<'_>,
 ) -> Result<ExitCode, Refusal> {
-    let mut reader = CountedReader::new(rt.reader());
-    let mut writer = CountedWriter::new(io::writer(rt));
-    match asked {
-        PqxAsked::Run(asked) => follow_script(rt, asked)?,
-        PqxAsked::Alone => script_reports::run_alone(rt.alloc(), &mut reader, &mut writer)?,
-        PqxAsked::Points(points) => report(threads, rt, points)?,
-        PqxAsked::BrokerRun => broker_script::run(rt.alloc(), &mut reader, &mut writer)?,
-        PqxAsked::BrokerPoints(points) => report_on_broker(threads, rt, points)?,
+    let done = match asked {
+        PqxAsked::Run(asked) => follow_script(rt, asked),
+        PqxAsked::Alone => print_alone(rt),
+        PqxAsked::Points(points) => report(threads, rt, points),
+        PqxAsked::BrokerRun => follow_broker(rt),
+        PqxAsked::BrokerPoints(points) => report_on_broker(threads, rt, points),
         PqxAsked::Check(asked) => return check(rt, asked),
-    }
-    Ok(ExitCode::SUCCESS)
+    };
+    done.map(|()| ExitCode::SUCCESS)
 }
 
 /// Does what the command line asks for, and answers with which status to end.
