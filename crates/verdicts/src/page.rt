@@ -238,7 +238,7 @@ impl<'a> Page<'a> {
     }
 
     /// The name of a client.
-    fn name(&mut self, client: usize, json: &str) -> Result<(), AllocError> {
+    fn name_of(&mut self, client: usize, json: &str) -> Result<(), AllocError> {
         let y = down(client);
         let middle = y.saturating_add(19);
         write!(
@@ -258,7 +258,7 @@ impl<'a> Page<'a> {
             "<svg class=\"names\" width=\"{NAMES}\" height=\"{high}\">\n"
         )?;
         for (client, json) in self.recording.clients.iter().enumerate() {
-            self.name(client, json.as_str())?;
+            self.name_of(client, json.as_str())?;
         }
         self.text.push_str("</svg>\n")
     }
