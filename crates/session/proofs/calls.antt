@@ -3,6 +3,7 @@ pub mod SlotCalls
 pub mod Starts
 pub mod Runs
 pub mod Requests
+pub mod Refusing
 pub mod Clients
 pub mod Numbers
 pub mod Admissions

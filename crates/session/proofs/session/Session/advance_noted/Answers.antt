@@ -2,8 +2,9 @@ use Rattle.std.proofs.Common.{◌≡◌, ℕ, Option, Some, None, Ok, ap, sym, s
 use Rattle.std.specs.Option.{IfSome}
 use Rattle.std.specs.Result.{IfOk}
 use Rattle.words.specs.declared.call.Reply.{Reply}
-use Rattle.persist.specs.Noted.{answer_in}
+use Rattle.persist.specs.Noted.{IsNoted, answer_in, change_in}
 use Rattle.named.specs.Brokers.{world_at}
+use Rattle.named.specs.Looking.{IsOpenTo}
 use Rattle.session.specs.Keeping.{IsKeptNow, SessionGoesOn}
 use Rattle.session.specs.Promises.{IsReplyIfNumbered}
 use Rattle.session.specs.Requests.{IsAdvanced, call_number, last_after}
@@ -116,3 +117,22 @@ returns-in_default-clause-queues c = queues_on _ _ _ c.self.view_is c.step_open-
 
 pub returns-in-Ok-clause-queues : goal.returns-in-Ok-clause-queues
 returns-in-Ok-clause-queues c = queues_on _ _ _ c.self.view_is c.step_open-acted.ensures.goes_on
+
+pub returns-in-Ok-clause-advanced : goal.returns-in-Ok-clause-advanced
+returns-in-Ok-clause-advanced c =
+    subst (λ (s : Sessioned). IsAdvanced s.broker c.step_open-acted.new.self c.args.queue.0 c.args.client (answer_in c.step_open-acted.result)) c.self.view_is
+    (record { act = c.step_open-acted.ensures.act; stays = c.step_open-acted.ensures.stays; beside = c.step_open-acted.ensures.beside })
+
+pub returns-in_default-clause-advanced : goal.returns-in_default-clause-advanced
+returns-in_default-clause-advanced c =
+    subst (λ (s : Sessioned). IsAdvanced s.broker c.step_open-acted.new.self c.args.queue.0 c.args.client (answer_in c.step_open-acted.result)) c.self.view_is
+    (record { act = c.step_open-acted.ensures.act; stays = c.step_open-acted.ensures.stays; beside = c.step_open-acted.ensures.beside })
+
+pub returns-in-Ok-clause-noted : goal.returns-in-Ok-clause-noted
+returns-in-Ok-clause-noted c = subst (λ (s : Sessioned). IsNoted (change_in c.step_open-acted.result) s.broker.words.kept c.step_open-acted.new.self.words.kept) c.self.view_is c.step_open-acted.ensures.noted
+
+pub returns-in_default-clause-noted : goal.returns-in_default-clause-noted
+returns-in_default-clause-noted c = subst (λ (s : Sessioned). IsNoted (change_in c.step_open-acted.result) s.broker.words.kept c.step_open-acted.new.self.words.kept) c.self.view_is c.step_open-acted.ensures.noted
+
+pub step_open-acted-requires : goal.step_open-acted-requires
+step_open-acted-requires c = subst (λ (s : Sessioned). IsOpenTo s.broker c.args.queue.0 c.args.client) (sym c.self.view_is) c.in_ok-number.ensures.open

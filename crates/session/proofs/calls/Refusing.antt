@@ -1,0 +1,65 @@
+-- Where a client's look at a queue is refused, so is all that it asks of it; and where it is not, the queue's world answers.
+use Rattle.std.proofs.Common.{◌≡◌, ℕ, List, Option, Some, None, Result, Ok, Err, ap, ◌∙◌}
+use Rattle.std.specs.Prelude.{IfOk, IsErr, IsErrAnd, OnErr, OnOk}
+use Rattle.words.specs.declared.call.Client.{Client}
+use Rattle.words.specs.declared.refusal.Refusal.{Refusal}
+use Rattle.words.specs.declared.refusal.Refusal.TheVariants.{NoQueue}
+use Rattle.persist.specs.Noted.{IsNoted, answer_in, change_in}
+use Rattle.persist.specs.declared.access.Noted.{Noted}
+use Rattle.interleave.specs.State.{State}
+use Rattle.named.specs.Brokers.{Brokered, admission, answer_at, answer_if, world_at}
+use Rattle.named.specs.Looking.{look_at}
+use Rattle.named.specs.Slots.{answered}
+use Rattle.named.specs.declared.looks.Look.{Look}
+
+-- what a call says that passes on why another was refused
+pub passed_on : {T : Type 0} (r : Result T Refusal) (e : Refusal) → IsErr r × IsErrAnd r (λ y. y ≡ e) → r ≡ Err e
+passed_on (Ok x) e is = absurd (cc (is.0))
+passed_on (Err y) e is = ap Err is.1
+
+pub not_done : {T : Type 0} (P : Type 0) (r : Result T Refusal) (e : Refusal) → IsErr r × IsErrAnd r (λ y. y ≡ e) → OnOk r P
+not_done P (Ok x) e is = absurd (cc (is.0))
+not_done P (Err y) e is = tt
+
+pub refused_too : {A : Type 0} (g : State → Result A Refusal) (b : Brokered) (slot : ℕ) (client : Client) (e : Refusal)
+    → (let x : Result Look Refusal = Err e in x) ≡ answer_at (λ w. let r : Result Look Refusal = Ok (look_at client w) in r) b slot client
+    → (let y : Result A Refusal = Err e in y) ≡ answer_at g b slot client
+refused_too {A} g b slot client e refused = go (admission b client) (world_at b slot) refused
+  where
+    go : (r : Result Unit Refusal) (o : Option State)
+        → (let x : Result Look Refusal = Err e in x) ≡ answer_if r (answered (λ w. let r : Result Look Refusal = Ok (look_at client w) in r) o)
+        → (let y : Result A Refusal = Err e in y) ≡ answer_if r (answered g o)
+    go (Err other) o is = let same : e ≡ other = cc (is) in ap (λ (x : Refusal). let y : Result A Refusal = Err x in y) same
+    go (Ok u) None is = let same : e ≡ NoQueue = cc (is) in ap (λ (x : Refusal). let y : Result A Refusal = Err x in y) same
+    go (Ok u) (Some w) is = absurd (cc (is))
+
+pub answered_by : {A : Type 0} (g : State → Result A Refusal) (b : Brokered) (slot : ℕ) (client : Client) (w : State)
+    → world_at b slot ≡ Some w → admission b client ≡ Ok tt → answer_at g b slot client ≡ g w
+answered_by g b slot client w here admitted =
+    ap (λ (a : Result Unit Refusal). answer_if a (answered g (world_at b slot))) admitted ∙ ap (answered g) here
+
+pub looked : (look : Look) (b : Brokered) (slot : ℕ) (client : Client) (w : State) → world_at b slot ≡ Some w → admission b client ≡ Ok tt
+    → (let x : Result Look Refusal = Ok look in x) ≡ answer_at (λ w. let r : Result Look Refusal = Ok (look_at client w) in r) b slot client
+    → look ≡ look_at client w
+looked look b slot client w here admitted is =
+    let both : (let x : Result Look Refusal = Ok look in x) ≡ Ok (look_at client w) =
+    is ∙ answered_by (λ w. let r : Result Look Refusal = Ok (look_at client w) in r) b slot client w here admitted in
+    cc (both)
+
+pub nothing : {T : Type 0} (Q : T → Type 0) (r : Result T Refusal) (e : Refusal) → IsErr r × IsErrAnd r (λ y. y ≡ e) → IfOk r Q
+nothing Q (Ok x) e is = absurd (cc (is.0))
+nothing Q (Err y) e is = tt
+
+pub left : {T : Type 0} (P : Type 0) (r : Result T Refusal) → P → OnErr r P
+left P (Ok x) holds = tt
+left P (Err y) holds = holds
+
+module _ {T : Type 0} where
+  pub answered_so : (r : Result (Noted T) Refusal) (e : Refusal) → IsErr r × IsErrAnd r (λ y. y ≡ e) → answer_in r ≡ Err e
+  answered_so (Ok x) e is = absurd (cc (is.0))
+  answered_so (Err y) e is = ap Err is.1
+
+  pub noted_as : (r : Result (Noted T) Refusal) (e : Refusal) (old new : List ℕ) → IsErr r × IsErrAnd r (λ y. y ≡ e) → IsNoted None old new
+      → IsNoted (change_in r) old new
+  noted_as (Ok x) e old new is noted = absurd (cc (is.0))
+  noted_as (Err y) e old new is noted = noted
