@@ -7,5 +7,6 @@ pub mod Requests
 pub mod Evictions
 pub mod EvictionOutcomes
 pub mod Loops
+pub mod Refused
 pub mod Continuity
 pub mod Comings

@@ -286,8 +286,13 @@ impl Block {
         ensures room { self.new.core.trace.room ≡ self.old.core.trace.room }
         ensures recovery { self.new.core.trace.recovery ≡ self.old.core.trace.recovery }
     {
-        let mut window = memory.window(self.from, self.len, self.port)?;
-        let change = self.core.evict(&mut window, word - self.from)?;
+        // Block and port are inside the memory, and the word is one of the block's.
+        let Ok(mut window) = memory.window(self.from, self.len, self.port) else {
+            unreachable!();
+        };
+        let Ok(change) = self.core.evict(&mut window, word - self.from) else {
+            unreachable!();
+        };
         Ok(renumbered(change, word))
     }
 

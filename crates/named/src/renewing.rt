@@ -70,6 +70,19 @@ impl Broker {
         replace(&mut self.spare, Vec::new(alloc))
     }
 
+    /// Refuses a renewal of the queue of a slot where it may not begin.
+    fn check_renewal(&self, slot: SlotId) -> Result<(), Refusal>
+        ensures may { OnOk result (MayRenew self.now slot.0) }
+        ensures errors { IfErr result (IsWhyNotRenewedAt self.now slot.0) }
+    {
+        self.check_ready()?;
+        self.kind(slot)?;
+        if self.creation.is_some() || have_calls(&self.slots) {
+            return Err(Refusal::Busy);
+        }
+        Ok(())
+    }
+
     /// What [`Broker::renew`] puts in place of what is there, its slots in this list, and nothing has changed yet. It is
     /// refused as that is.
     fn prepared(&self, slot: SlotId, list: Vec<Slot>) -> Result<Anew, Refusal>
@@ -83,11 +96,7 @@ impl Broker {
             layout: self.layout,
             directory: self.directory,
         };
-        self.check_ready()?;
-        self.kind(slot)?;
-        if self.creation.is_some() || have_calls(&self.slots) {
-            return Err(Refusal::Busy);
-        }
+        self.check_renewal(slot)?;
         let alloc = *self.slots.allocator();
         let block = fresh_queue(alloc, &kept, &self.memory, slot)?;
         let mut slots = boot_each(list, &kept, &self.memory)?;
