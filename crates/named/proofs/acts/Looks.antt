@@ -1,5 +1,5 @@
 -- What is found in a slot that is open to a client; and where a look is refused every act is, alike.
-use Rattle.std.proofs.Common.{◌≡◌, ℕ, ◌<◌, inr, arith, is_ok, if◌then◌else◌, Bool, true, false, Option, Some, None, Result, Ok, Err, slice_get, get_or, refl, sym, ap, subst}
+use Rattle.std.proofs.Common.{◌≡◌, ℕ, ◌<◌, inr, arith, is_ok, if◌then◌else◌, Bool, true, false, Option, Some, None, Result, Ok, Err, slice_get, get_or, refl, sym, ap, subst, ◌∙◌}
 use Rattle.std.proofs.lemmas.Option.{slice_get_read, slice_get_within}
 use Rattle.arena.specs.declared.broker.TheConstants.{SLOTS}
 use Rattle.words.specs.declared.call.Client.{Client}
@@ -121,3 +121,17 @@ module _ {T : Type 0} (f : State → T) (b : Brokered) (slot : ℕ) (client : Cl
     room = omega arith;
     spare = omega arith;
   }
+
+-- what is asked of a queue's world is answered by it, or refused for the client, or for want of a queue
+module _ {T : Type 0} (f : State → Result T Refusal) (b : Brokered) (slot : ℕ) (client : Client) (r : Result T Refusal) where
+  pub not_admitted : (e : Refusal) → (let x : Result Unit Refusal = Err e in x) ≡ admission b client → r ≡ Err e → r ≡ answer_at f b slot client
+  not_admitted e refused is = is ∙ ap (λ (a : Result Unit Refusal). answer_if a (answered f (world_at b slot))) refused
+
+  pub unanswered : (e : Refusal) → (e ≡ NoQueue) × (world_at b slot ≡ None) → r ≡ Err e → r ≡ answered f (world_at b slot)
+  unanswered e none is = is ∙ ap Err none.0 ∙ sym (ap (answered f) none.1)
+
+  pub by_world : (w : State) → world_at b slot ≡ Some w → r ≡ f w → r ≡ answered f (world_at b slot)
+  by_world w here is = is ∙ sym (ap (answered f) here)
+
+  pub by_admitted : admission b client ≡ Ok tt → r ≡ answered f (world_at b slot) → r ≡ answer_at f b slot client
+  by_admitted admitted is = is ∙ sym (ap (λ (a : Result Unit Refusal). answer_if a (answered f (world_at b slot))) admitted)

@@ -1,14 +1,16 @@
-use Rattle.std.proofs.Common.{◌≡◌, ℕ, ◌<◌, Some, List, length, slice_get, slice_index_or, inl, inr, sym, subst, ◌∙◌, arith}
+use Rattle.std.proofs.Common.{◌≡◌, ℕ, ◌<◌, Some, List, length, slice_get, slice_index_or, inl, inr, ap, sym, subst, ◌∙◌, arith}
 use Rattle.std.proofs.lemmas.Bool.{cases_eq}
 use Rattle.std.proofs.lemmas.Option.{slice_get-get_or, slice_get_within}
-use Rattle.arena.specs.Broker.{block_in}
+use Rattle.arena.specs.Broker.{block_in, broker_size_in}
 use Rattle.arena.specs.Shape.{Counts, shape_of}
 use Rattle.sound_words.specs.Sound.{AreSoundWordsIn}
 use Rattle.directory.specs.Directory.{Directory, HasQueue}
 use Rattle.directory.specs.Queue.{directory_of}
 use Rattle.directory.specs.declared.queue.Queue.{Queue}
 use Rattle.directory.specs.Sound.{counts_in}
+use Rattle.named.specs.Booting.{IsBlockDamagedIn, IsDamagedFor}
 use Rattle.named.proofs.acts.OneSlot.{some_is}
+use Rattle.named.proofs.acts.Refused.{not_done, why}
 use Rattle.named.proofs.booting.check_blocks.Goals as goal
 use Rattle.named.proofs.booting.check_blocks.Goals.{in-Some+in_ok-check_block, in_default}
 
@@ -43,3 +45,41 @@ returns-clause-sound c = record {
       let below : slot < length (directory_of c.args.memory.now.words.kept) = slice_get_within (directory_of c.args.memory.now.words.kept) slot (Some queue) has in
       c.loop-slot.invariant slot queue (omega (arith, below, c.requires.broker.directory.names.count, c.loop-slot-test.false)) has;
 }
+
+pub loop-slot-init : goal.loop-slot-init
+loop-slot-init c = λ slot queue below has. absurd (omega (arith, below))
+
+pub check_block-requires-clause-slot : goal.check_block-requires-clause-slot
+check_block-requires-clause-slot c = c.loop-slot-test.true
+
+pub check_block-requires-clause-room : goal.check_block-requires-clause-room
+check_block-requires-clause-room c =
+    omega (arith, ap length c.requires.crashed, c.requires.broker.head.size, ap (broker_size_in c.args.form) c.requires.counts_are)
+
+pub check_block-requires-clause-kept : goal.check_block-requires-clause-kept
+check_block-requires-clause-kept c = omega (arith, c.requires.broker.head.size, ap (broker_size_in c.args.form) c.requires.counts_are)
+
+pub returns-in_err-check_block-clause-sound : goal.returns-in_err-check_block-clause-sound
+returns-in_err-check_block-clause-sound c = not_done _ c.from_residual.result c.in_err-check_block.field-0.0 c.from_residual.ensures
+
+pub returns-in_err-check_block-clause-damaged : goal.returns-in_err-check_block-clause-damaged
+returns-in_err-check_block-clause-damaged c =
+    let ws : List ℕ = c.args.memory.now.words.kept in
+    let places : Directory = c.queues-places.result.now in
+    let at : ℕ = c.loop-slot.slot in
+    let queue : Queue = c.in-Some.queue in
+    let count : length places ≡ 8 = ap length c.queues-places.ensures.places ∙ c.queues-places.ensures.directory.count in
+    let here : HasQueue places at queue =
+    slice_get-get_or places at c.index-places-slot.result (omega (arith, count, c.loop-slot-test.true)) ∙ ap Some c.in-Some.is in
+    let damaged : IsBlockDamagedIn c.args.form ws c.in_err-check_block.field-0.0 = record {
+      broker = c.requires.broker;
+      slot = at;
+      queue = queue;
+      has = subst (λ (d : Directory). HasQueue d at queue) (c.queues-places.ensures.places ∙ c.requires.directory_is) here;
+      below = λ other q under has. c.loop-slot.invariant other q under has;
+      damaged = subst (λ (n : Counts). IsDamagedFor c.args.form n queue.kind at ws c.in_err-check_block.field-0.0) c.requires.counts_are c.in_err-check_block.ensures.damaged;
+    } in
+    why _ c.from_residual.result c.in_err-check_block.field-0.0 c.from_residual.ensures damaged
+
+pub returns-clause-damaged : goal.returns-clause-damaged
+returns-clause-damaged c = tt

@@ -1,5 +1,6 @@
-use Rattle.std.proofs.Common.{rules, ◌≡◌, ℕ, length, List, [], ◌∷◌, ◌++◌, Some, Option, Vec, Global, slice_get, slice_set, slice_index_or, ap, sym, subst, ◌∙◌}
+use Rattle.std.proofs.Common.{rules, ◌≡◌, ℕ, length, List, [], ◌∷◌, ◌++◌, Some, Option, Vec, Global, slice_get, slice_set, slice_index_or, refl, arith, ap, sym, subst, ◌∙◌}
 use Rattle.std.specs.Option.{option_to_list}
+use Rattle.std.proofs.lemmas.Option.{slice_get_within}
 use Rattle.std.proofs.lemmas.List.{map-append, length-map}
 use Rattle.std.specs.Prelude.{map}
 use Rattle.words.specs.PlainQueue.{Value}
@@ -59,3 +60,12 @@ returns c =
     let none : length c.loop-base.bases.items ≡ 0 = search rules in
     begun_all c.args.memory.now.words c.args.slots.now (map of_each c.args.bases.items) c.loop-base.slots (map of_each c.loop-base.bases.items) c.loop-base.invariant
     (length-map c.loop-base.bases.items of_each ∙ none)
+
+pub loop-base-init : goal.loop-base-init
+loop-base-init c = record {
+  count = refl;
+  few = omega (arith, c.requires.bases.count);
+  bases_left = λ at base there. there;
+  still = λ at below. refl;
+  begun = λ at was is past there now. absurd (omega (arith, past, slice_get_within c.args.slots.now at was there, c.requires.bases.count));
+}

@@ -18,6 +18,7 @@ use Rattle.named.proofs.downtime.Crashes.{few_in_each, rooms_roomier, rooms_stop
 use Rattle.named.proofs.downtime.Crashes.{worlds_roomier, worlds_stopped}
 use Rattle.named.proofs.acts.Requests.{same_asked, stopped_asked}
 use Rattle.named.proofs.promises.Promises.{promises_well}
+use Rattle.named.proofs.acts.Refused.{not_ok, passed_on}
 use Rattle.named.proofs.broker.Broker.crash.Goals as goal
 
 pub reserve_each-requires : goal.reserve_each-requires
@@ -146,3 +147,21 @@ returns-clause-goes_on c = crash_goes_on _ _ (subst IsWell c.self.view_is c.self
 
 pub returns-clause-downtime : goal.returns-clause-downtime
 returns-clause-downtime c = λ ok. crash_downtime _ _ (subst IsWell c.self.view_is c.self.invariant.well) (returns-clause-stopped c ok)
+
+pub returns-in_err-reserve_each-clause-stopped : goal.returns-in_err-reserve_each-clause-stopped
+returns-in_err-reserve_each-clause-stopped c = λ ok. absurd (not_ok c.from_residual.result c.in_err-reserve_each.field-0.0 _ (passed_on c.from_residual.result c.in_err-reserve_each.field-0.0 c.from_residual.ensures) ok)
+
+pub returns-in_err-reserve_each-clause-left : goal.returns-in_err-reserve_each-clause-left
+returns-in_err-reserve_each-clause-left c = λ ok. absurd (not_ok c.from_residual.result c.in_err-reserve_each.field-0.0 _ (passed_on c.from_residual.result c.in_err-reserve_each.field-0.0 c.from_residual.ensures) ok)
+
+pub returns-in_err-reserve_each-clause-downtime : goal.returns-in_err-reserve_each-clause-downtime
+returns-in_err-reserve_each-clause-downtime c = λ ok. absurd (not_ok c.from_residual.result c.in_err-reserve_each.field-0.0 _ (passed_on c.from_residual.result c.in_err-reserve_each.field-0.0 c.from_residual.ensures) ok)
+
+pub returns-clause-same : goal.returns-clause-same
+returns-clause-same c = tt
+
+pub returns-clause-spare : goal.returns-clause-spare
+returns-clause-spare c = tt
+
+pub returns-clause-full : goal.returns-clause-full
+returns-clause-full c = λ full. absurd (cc (full))

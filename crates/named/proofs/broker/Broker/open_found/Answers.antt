@@ -14,6 +14,7 @@ use Rattle.named.proofs.acts.Requests.{down_asked, found_asked, opened_asked}
 use Rattle.named.proofs.acts.Loops.{rooms_kept}
 use Rattle.named.proofs.creations.OpenGates.{closed, found_first, found_here, found_known, found_waits, is_free, is_new}
 use Rattle.named.proofs.creations.OpenGates.{known_found, known_open, some_dropped, unused, well_found}
+use Rattle.named.proofs.acts.Refused.{if_none}
 use Rattle.named.proofs.broker.Broker.open_found.Goals as goal
 
 pub returns-then-not-is_closed-clause-known : goal.returns-then-not-is_closed-clause-known
@@ -159,3 +160,27 @@ returns-clause-rooms c = λ other.
     let none : room_in s ≡ 0 = ap room_in (closed b c.self.invariant.well down c.in-Some.slot gate s here is_closed) in
     subst (λ (x : Brokered). room_at x other ≤ room_of (slice_get (slice_set b.slots c.in-Some.slot.0 c.open_found-opened.result) other)) c.self.view_is
     (rooms_kept b.slots c.in-Some.slot.0 s c.open_found-opened.result here (omega (arith, none)) other)
+
+pub returns-in_default-clause-same : goal.returns-in_default-clause-same
+returns-in_default-clause-same c = refl
+
+pub returns-in_default-clause-rooms : goal.returns-in_default-clause-rooms
+returns-in_default-clause-rooms c = λ other. omega arith
+
+pub returns-in_default-clause-well : goal.returns-in_default-clause-well
+returns-in_default-clause-well c = c.requires.well
+
+pub returns-in_default-clause-known : goal.returns-in_default-clause-known
+returns-in_default-clause-known c = if_none _ _ c.in_default.is
+
+pub returns-in_default-clause-found : goal.returns-in_default-clause-found
+returns-in_default-clause-found c = subst (λ (o : Option SlotId). IsFound c.args.self.now c.args.self.now o) (sym c.in_default.is) (record { directory = refl; worlds = λ slot. refl })
+
+pub returns-then-not-is_closed-clause-same : goal.returns-then-not-is_closed-clause-same
+returns-then-not-is_closed-clause-same c = refl
+
+pub returns-then-not-is_closed-clause-rooms : goal.returns-then-not-is_closed-clause-rooms
+returns-then-not-is_closed-clause-rooms c = λ other. omega arith
+
+pub returns-then-not-is_closed-clause-well : goal.returns-then-not-is_closed-clause-well
+returns-then-not-is_closed-clause-well c = c.requires.well

@@ -1,8 +1,8 @@
-use Rattle.std.proofs.Common.{rules, ℕ, ◌≡◌, ◌∙◌, ◌+◌, ◌<◌, ◌≤◌, Option, Some, Ok, Result, Bool, true, false, slice_get, slice_set, sym, ap, subst}
+use Rattle.std.proofs.Common.{rules, ℕ, ◌≡◌, ◌∙◌, ◌+◌, ◌<◌, ◌≤◌, Option, Some, None, Ok, Result, Bool, true, false, slice_get, slice_set, sym, ap, subst}
 use Rattle.std.specs.Prelude.{IfErr, is_none}
 use Rattle.std.proofs.lemmas.Option.{slice_get_read}
 use Rattle.words.specs.declared.refusal.Refusal.{Refusal}
-use Rattle.persist.specs.Noted.{answer_in}
+use Rattle.persist.specs.Noted.{IsNoted, answer_in}
 use Rattle.persist.specs.declared.access.Noted.{Noted}
 use Rattle.directory.specs.declared.creation.Creation.{Creation}
 use Rattle.named.specs.BrokerView.{broker_view}
@@ -15,6 +15,7 @@ use Rattle.named.specs.Lasting.{left_at, steps_left}
 use Rattle.interleave.specs.Calls.{is_no_memory}
 use Rattle.named.specs.Slots.{room_in}
 use Rattle.named.proofs.acts.Loops.{rooms_after, rooms_kept}
+use Rattle.named.proofs.acts.Refused.{answered_so, left, noted_as, nothing}
 use Rattle.named.proofs.acts.OneSlot.{others_stay, slot_is_well, slot_now}
 use Rattle.named.proofs.downtime.QueueSteps.{HasSpent, falls_ready, falls_yet, full_here, its_slot, ready_by, recovered}
 use Rattle.named.proofs.downtime.QueueSteps.{recovering, tells_ready, well_ready, well_recovering}
@@ -59,7 +60,8 @@ returns-in_err-ready-clause-recovered c =
     let here : slice_get b.slots c.args.slot.0 ≡ Some was = slice_get_read b.slots 8 c.args.slot.0 was (sym c.self.invariant.well.count) (its_slot b c.self.invariant.well c.args.slot turn) c.index_mut.ensures.value in
     let yet : ready_by (answer_in c.recover_step.result) ≡ false = ap (λ (r : Result (Noted Bool) Refusal). ready_by (answer_in r)) c.in_err-ready.was in
     let now : Brokered = with_slot b c.args.slot.0 c.recover_step.new.self c.recover_step.new.memory.words in
-    let answer : answer_in c.recover_step.result ≡ answer_in c.from_residual.result = search rules in
+    let answer : answer_in c.recover_step.result ≡ answer_in c.from_residual.result =
+    ap (λ (r : Result (Noted Bool) Refusal). answer_in r) c.in_err-ready.was ∙ sym (answered_so c.from_residual.result c.in_err-ready.field-0.0 c.from_residual.ensures) in
     let spent : HasSpent was c.recover_step.new.self (answer_in c.recover_step.result) = record { full = c.recover_step.ensures.act.full; room = c.recover_step.ensures.act.room; spare = c.recover_step.ensures.act.spare; stays = c.recover_step.ensures.stays } in
     let done : IsQueueRecovered b now c.args.slot.0 (answer_in c.recover_step.result) = recovering b c.args.slot was c.recover_step.new.self c.recover_step.new.memory.words c.self.invariant.well here c.recover_step.ensures.well c.recover_step.ensures.outside c.recover_step.ensures.same turn (answer_in c.recover_step.result) c.recover_step.ensures.act.world c.recover_step.ensures.act.answers yet spent in
     subst (λ (x : Brokered). IsQueueRecovered x now c.args.slot.0 (answer_in c.from_residual.result)) c.self.view_is (subst (IsQueueRecovered b now c.args.slot.0) answer done)
@@ -177,7 +179,8 @@ returns-in_err-ready-clause-full c = λ no_memory.
     let turn : b.recovery ≡ Some (RecoverQueue c.args.slot) = ap (λ (x : Brokered). x.recovery) c.self.view_is ∙ c.requires in
     let was : Slot = c.index_mut.result.now in
     let here : slice_get b.slots c.args.slot.0 ≡ Some was = slice_get_read b.slots 8 c.args.slot.0 was (sym c.self.invariant.well.count) (its_slot b c.self.invariant.well c.args.slot turn) c.index_mut.ensures.value in
-    let answer : answer_in c.recover_step.result ≡ answer_in c.from_residual.result = search rules in
+    let answer : answer_in c.recover_step.result ≡ answer_in c.from_residual.result =
+    ap (λ (r : Result (Noted Bool) Refusal). answer_in r) c.in_err-ready.was ∙ sym (answered_so c.from_residual.result c.in_err-ready.field-0.0 c.from_residual.ensures) in
     let full : room_in was ≡ 0 = c.recover_step.ensures.act.full (ap (is_no_memory {X = Bool}) answer ∙ no_memory) in
     subst HasFullQueue c.self.view_is (full_here b c.self.invariant.well c.args.slot turn was here full)
 
@@ -200,7 +203,7 @@ returns-in_err-ready-clause-spare c =
     let all : (other : ℕ) → room_at c.args.self.now other ≤ room_of (slice_get (slice_set b.slots c.args.slot.0 c.recover_step.new.self) other) = λ other.
     subst (λ (x : Brokered). room_at x other ≤ room_of (slice_get (slice_set b.slots c.args.slot.0 c.recover_step.new.self) other)) c.self.view_is
     (rooms_kept b.slots c.args.slot.0 was c.recover_step.new.self here refused other) in
-    search rules
+    left _ c.from_residual.result all
 
 pub returns-then-not-ready-clause-room : goal.returns-then-not-ready-clause-room
 returns-then-not-ready-clause-room c = λ other.
@@ -228,3 +231,35 @@ returns-then-not-ready-clause-promises c = promises_well _ (invariant_of-self-th
 
 pub returns-clause-promises : goal.returns-clause-promises
 returns-clause-promises c = promises_well _ (invariant_of-self-2 c).well
+
+pub returns-in_err-ready-clause-noted : goal.returns-in_err-ready-clause-noted
+returns-in_err-ready-clause-noted c =
+    noted_as c.from_residual.result c.in_err-ready.field-0.0 c.from_residual.ensures _ _
+    (subst (λ (x : Brokered). IsNoted None x.words.kept c.recover_step.new.memory.words.kept) c.self.view_is c.in_err-ready.ensures.noted)
+
+pub returns-in_err-ready-clause-told : goal.returns-in_err-ready-clause-told
+returns-in_err-ready-clause-told c = λ slot down up. absurd (cc (sym up ∙ ap (λ (x : Brokered). is_ready_at x.recovery slot) c.self.view_is ∙ down))
+
+pub returns-in_err-ready-clause-falls : goal.returns-in_err-ready-clause-falls
+returns-in_err-ready-clause-falls c = nothing _ c.from_residual.result c.in_err-ready.field-0.0 c.from_residual.ensures
+
+pub returns-then-not-ready-clause-full : goal.returns-then-not-ready-clause-full
+returns-then-not-ready-clause-full c = λ full. absurd (cc (full))
+
+pub returns-then-not-ready-clause-spare : goal.returns-then-not-ready-clause-spare
+returns-then-not-ready-clause-spare c = tt
+
+pub returns-then-not-ready-clause-noted : goal.returns-then-not-ready-clause-noted
+returns-then-not-ready-clause-noted c = subst (λ (x : Brokered). IsNoted c.in_ok-ready.field-0.change x.words.kept c.recover_step.new.memory.words.kept) c.self.view_is c.in_ok-ready.ensures.noted
+
+pub returns-then-not-ready-clause-told : goal.returns-then-not-ready-clause-told
+returns-then-not-ready-clause-told c = λ slot down up. absurd (cc (sym up ∙ ap (λ (x : Brokered). is_ready_at x.recovery slot) c.self.view_is ∙ down))
+
+pub returns-clause-full : goal.returns-clause-full
+returns-clause-full c = λ full. absurd (cc (full))
+
+pub returns-clause-spare : goal.returns-clause-spare
+returns-clause-spare c = tt
+
+pub returns-clause-noted : goal.returns-clause-noted
+returns-clause-noted c = subst (λ (x : Brokered). IsNoted c.in_ok-ready.field-0.change x.words.kept c.recover_step.new.memory.words.kept) c.self.view_is c.in_ok-ready.ensures.noted

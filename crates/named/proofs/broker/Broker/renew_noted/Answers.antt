@@ -1,12 +1,14 @@
-use Rattle.std.proofs.Common.{rules, ◌≡◌, ◌∙◌, ℕ, List, false, Result, Ok, Err, sym, ap, subst, arith}
-use Rattle.std.specs.Prelude.{IfErr, OnOk, length}
+use Rattle.std.proofs.Common.{◌≡◌, ◌∙◌, ℕ, List, false, true, refl, Result, Ok, Err, sym, ap, subst, arith}
+use Rattle.std.specs.Prelude.{OnErr, OnOk, length}
 use Rattle.std.specs.Result.{is_err}
 use Rattle.persist.specs.Memory.{Words, overwritten}
 use Rattle.persist.specs.declared.access.Change.{Change}
 use Rattle.arena.specs.Broker.{block_from}
 use Rattle.notes.specs.Noting.{HasNoted}
 use Rattle.named.specs.Brokers.{Brokered}
-use Rattle.named.specs.Renewing.{IsWhyNotRenewedAt}
+use Rattle.named.specs.Renewing.{IsRenewedAt, IsWhyNotRenewedAt, MayRenew}
+use Rattle.named.proofs.promises.Promises.{promises_kept}
+use Rattle.named.proofs.acts.Refused.{left, not_done, why}
 use Rattle.named.proofs.broker.Broker.renew_noted.Goals as goal
 
 pub note_rewrite-requires : goal.note_rewrite-requires
@@ -23,6 +25,10 @@ note_rewrite-requires c =
 done : {T E : Type 0} (r : Result T E) (P : Type 0) → is_err r ≡ false → OnOk r P → P
 done (Ok x) P right noted = noted
 done (Err e) P right noted = absurd (cc (right))
+
+refused : {T E : Type 0} (r : Result T E) (P : Type 0) → is_err r ≡ true → OnErr r P → P
+refused (Ok x) P wrong left = absurd (cc (wrong))
+refused (Err e) P wrong left = left
 
 pub returns-clause-noted : goal.returns-clause-noted
 returns-clause-noted c =
@@ -44,7 +50,87 @@ returns-clause-noted c =
 pub returns-in_err-anew-clause-errors : goal.returns-in_err-anew-clause-errors
 returns-in_err-anew-clause-errors c =
     let e = c.in_err-anew.field-0.0 in
-    let why : IsWhyNotRenewedAt c.args.self.now c.args.slot.0 e =
+    let reason : IsWhyNotRenewedAt c.args.self.now c.args.slot.0 e =
     subst (λ (b : Brokered). IsWhyNotRenewedAt b c.args.slot.0 e) c.take_spare-list.ensures c.in_err-anew.ensures.errors in
-    let answer : c.from_residual.result ≡ Err e = search rules in
-    subst (λ r. IfErr r (IsWhyNotRenewedAt c.args.self.now c.args.slot.0)) (sym answer) why
+    why _ c.from_residual.result e c.from_residual.ensures reason
+
+pub returns-in_err-anew-clause-may : goal.returns-in_err-anew-clause-may
+returns-in_err-anew-clause-may c = not_done _ c.from_residual.result c.in_err-anew.field-0.0 c.from_residual.ensures
+
+pub returns-in_err-anew-clause-renewed : goal.returns-in_err-anew-clause-renewed
+returns-in_err-anew-clause-renewed c = not_done _ c.from_residual.result c.in_err-anew.field-0.0 c.from_residual.ensures
+
+pub returns-in_err-anew-clause-room : goal.returns-in_err-anew-clause-room
+returns-in_err-anew-clause-room c = not_done _ c.from_residual.result c.in_err-anew.field-0.0 c.from_residual.ensures
+
+pub returns-in_err-anew-clause-noted : goal.returns-in_err-anew-clause-noted
+returns-in_err-anew-clause-noted c = not_done _ c.from_residual.result c.in_err-anew.field-0.0 c.from_residual.ensures
+
+pub returns-in_err-anew-clause-promised : goal.returns-in_err-anew-clause-promised
+returns-in_err-anew-clause-promised c = not_done _ c.from_residual.result c.in_err-anew.field-0.0 c.from_residual.ensures
+
+pub returns-in_err-anew-clause-unnoted : goal.returns-in_err-anew-clause-unnoted
+returns-in_err-anew-clause-unnoted c = left _ c.from_residual.result refl
+
+pub returns-in_err-anew-clause-same : goal.returns-in_err-anew-clause-same
+returns-in_err-anew-clause-same c = left _ c.from_residual.result c.take_spare-list.ensures
+
+pub returns-then-is_err-clause-may : goal.returns-then-is_err-clause-may
+returns-then-is_err-clause-may c = tt
+
+pub returns-then-is_err-clause-renewed : goal.returns-then-is_err-clause-renewed
+returns-then-is_err-clause-renewed c = tt
+
+pub returns-then-is_err-clause-room : goal.returns-then-is_err-clause-room
+returns-then-is_err-clause-room c = tt
+
+pub returns-then-is_err-clause-noted : goal.returns-then-is_err-clause-noted
+returns-then-is_err-clause-noted c = tt
+
+pub returns-then-is_err-clause-promised : goal.returns-then-is_err-clause-promised
+returns-then-is_err-clause-promised c = tt
+
+pub returns-in_err-anew-clause-promises : goal.returns-in_err-anew-clause-promises
+returns-in_err-anew-clause-promises c = promises_kept _ _ c.self.invariant.well c.self.view_is
+
+pub returns-then-is_err-clause-errors : goal.returns-then-is_err-clause-errors
+returns-then-is_err-clause-errors c = subst (λ (b : Brokered). MayRenew b c.args.slot.0) c.take_spare-list.ensures c.in_ok-anew.ensures.may
+
+pub returns-then-is_err-clause-same : goal.returns-then-is_err-clause-same
+returns-then-is_err-clause-same c = c.take_spare-list.ensures
+
+pub returns-then-is_err-clause-unnoted : goal.returns-then-is_err-clause-unnoted
+returns-then-is_err-clause-unnoted c = refused c.note_rewrite.result _ (sym c.is_err.ensures.value ∙ c.if-is_err.true) c.note_rewrite.ensures.same
+
+pub returns-then-is_err-clause-promises : goal.returns-then-is_err-clause-promises
+returns-then-is_err-clause-promises c = promises_kept _ _ c.self.invariant.well c.self.view_is
+
+pub begin_anew-requires-clause-may : goal.begin_anew-requires-clause-may
+begin_anew-requires-clause-may c = c.in_ok-anew.ensures.may
+
+pub begin_anew-requires-clause-anew : goal.begin_anew-requires-clause-anew
+begin_anew-requires-clause-anew c = c.in_ok-anew.ensures.anew
+
+pub returns-clause-may : goal.returns-clause-may
+returns-clause-may c = subst (λ (b : Brokered). MayRenew b c.args.slot.0) c.take_spare-list.ensures c.in_ok-anew.ensures.may
+
+pub returns-clause-renewed : goal.returns-clause-renewed
+returns-clause-renewed c = subst (λ (b : Brokered). IsRenewedAt b c.begin_anew.new.self c.args.slot.0) c.take_spare-list.ensures c.begin_anew.ensures.renewed
+
+pub returns-clause-room : goal.returns-clause-room
+returns-clause-room c = c.begin_anew.ensures.room
+
+pub returns-clause-promised : goal.returns-clause-promised
+returns-clause-promised c = done c.note_rewrite.result _ (sym c.is_err.ensures.value ∙ c.if-is_err.false) c.note_rewrite.ensures.promised
+
+pub returns-clause-promises : goal.returns-clause-promises
+returns-clause-promises c = c.begin_anew.ensures.promises
+
+pub returns-clause-errors : goal.returns-clause-errors
+returns-clause-errors c = tt
+
+pub returns-clause-same : goal.returns-clause-same
+returns-clause-same c = tt
+
+pub returns-clause-unnoted : goal.returns-clause-unnoted
+returns-clause-unnoted c = tt

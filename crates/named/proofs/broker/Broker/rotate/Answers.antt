@@ -12,6 +12,7 @@ use Rattle.named.proofs.acts.OneSlot.{ready_there}
 use Rattle.named.proofs.acts.Requests.{rotated_asked}
 use Rattle.named.proofs.promises.Promises.{promises_kept, promises_well}
 use Rattle.named.proofs.histories.Rotations.{all_quiet, rotated_rooms, rotated_well, rotated_worlds}
+use Rattle.named.proofs.acts.Refused.{left, not_ok, passed_on}
 use Rattle.named.proofs.broker.Broker.rotate.Goals as goal
 
 pub prepare_each-requires : goal.prepare_each-requires
@@ -76,3 +77,33 @@ returns-then-is_some-clause-promises c = promises_kept _ _ c.self.invariant.well
 
 pub returns-in_err-bases-clause-promises : goal.returns-in_err-bases-clause-promises
 returns-in_err-bases-clause-promises c = promises_kept _ _ c.self.invariant.well c.self.view_is
+
+pub returns-in_err-check_ready-clause-rotated : goal.returns-in_err-check_ready-clause-rotated
+returns-in_err-check_ready-clause-rotated c = λ ok. absurd (not_ok c.from_residual.result c.in_err-check_ready.field-0.0 _ (passed_on c.from_residual.result c.in_err-check_ready.field-0.0 c.from_residual.ensures) ok)
+
+pub returns-in_err-check_ready-clause-same : goal.returns-in_err-check_ready-clause-same
+returns-in_err-check_ready-clause-same c = left _ c.from_residual.result refl
+
+pub returns-in_err-check_ready-clause-room : goal.returns-in_err-check_ready-clause-room
+returns-in_err-check_ready-clause-room c = λ at. omega arith
+
+pub returns-in_err-bases-clause-rotated : goal.returns-in_err-bases-clause-rotated
+returns-in_err-bases-clause-rotated c = λ ok. absurd (not_ok c.from_residual-in_err-bases.result c.in_err-bases.field-0.0 _ (passed_on c.from_residual-in_err-bases.result c.in_err-bases.field-0.0 c.from_residual-in_err-bases.ensures) ok)
+
+pub returns-in_err-bases-clause-same : goal.returns-in_err-bases-clause-same
+returns-in_err-bases-clause-same c = left _ c.from_residual-in_err-bases.result refl
+
+pub returns-in_err-bases-clause-room : goal.returns-in_err-bases-clause-room
+returns-in_err-bases-clause-room c = λ at. omega arith
+
+pub returns-then-is_some-clause-rotated : goal.returns-then-is_some-clause-rotated
+returns-then-is_some-clause-rotated c = λ ok. absurd (cc (ok))
+
+pub returns-then-is_some-clause-same : goal.returns-then-is_some-clause-same
+returns-then-is_some-clause-same c = refl
+
+pub returns-then-is_some-clause-room : goal.returns-then-is_some-clause-room
+returns-then-is_some-clause-room c = λ at. omega arith
+
+pub returns-clause-same : goal.returns-clause-same
+returns-clause-same c = tt

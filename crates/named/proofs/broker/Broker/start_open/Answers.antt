@@ -9,6 +9,9 @@ use Rattle.named.specs.declared.slot.Slot.{Slot}
 use Rattle.named.proofs.acts.Acts.{act_at, goes_on_at, same_beside, still_over}
 use Rattle.named.proofs.acts.Looks.{found}
 use Rattle.named.proofs.promises.Promises.{promises_well}
+use Rattle.std.proofs.Common.{arith, ◌∙◌, ap, sym}
+use Rattle.named.specs.Looking.{IsOpenTo}
+use Rattle.named.proofs.acts.Looks.{open_below}
 use Rattle.named.proofs.broker.Broker.start_open.Goals as goal
 
 pub start-requires : goal.start-requires
@@ -54,3 +57,11 @@ returns-clause-beside c =
 
 pub returns-clause-promises : goal.returns-clause-promises
 returns-clause-promises c = promises_well _ (invariant_of-self c).well
+
+pub index_mut-requires : goal.index_mut-requires
+index_mut-requires c =
+    let opened = subst (λ (x : Brokered). IsOpenTo x c.args.slot.0 c.args.client) (sym c.self.view_is) c.requires in
+    omega (arith, open_below (broker_view c.self.inside) c.self.invariant.well c.args.slot.0 opened.world opened.here, c.self.invariant.well.count)
+
+pub returns-clause-unchanged : goal.returns-clause-unchanged
+returns-clause-unchanged c = c.start.ensures.kept ∙ ap (λ (x : Brokered). x.words.kept) c.self.view_is

@@ -13,6 +13,9 @@ use Rattle.named.specs.declared.slot.Slot.{Slot}
 use Rattle.named.proofs.acts.Acts.{act_at, goes_on_at, same_beside, still_over}
 use Rattle.named.proofs.acts.Looks.{found}
 use Rattle.named.proofs.promises.Promises.{promises_well}
+use Rattle.persist.specs.Noted.{IsNoted, change_in}
+use Rattle.named.specs.Looking.{IsOpenTo}
+use Rattle.named.proofs.acts.Looks.{open_below}
 use Rattle.named.proofs.broker.Broker.step_open.Goals as goal
 
 pub step-requires : goal.step-requires
@@ -68,3 +71,11 @@ returns-clause-stays c = λ e.
     let now : room_of (slice_get (slice_set b.slots c.args.slot.0 c.step.new.self) c.args.slot.0) ≡ room_in c.step.new.self =
     ap room_of (get_set b.slots c.args.slot.0 c.step.new.self (slice_get_within b.slots c.args.slot.0 was at.here)) in
     omega (arith, old, now, c.step.ensures.stays e)
+
+pub index_mut-requires : goal.index_mut-requires
+index_mut-requires c =
+    let opened = subst (λ (x : Brokered). IsOpenTo x c.args.slot.0 c.args.client) (sym c.self.view_is) c.requires in
+    omega (arith, open_below (broker_view c.self.inside) c.self.invariant.well c.args.slot.0 opened.world opened.here, c.self.invariant.well.count)
+
+pub returns-clause-noted : goal.returns-clause-noted
+returns-clause-noted c = subst (λ (x : Brokered). IsNoted (change_in c.step.result) x.words.kept c.step.new.memory.words.kept) c.self.view_is c.step.ensures.noted
