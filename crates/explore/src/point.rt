@@ -62,6 +62,7 @@ fn crash_in(
     evictions: Evictions,
 ) -> Result<Point, Refusal>
     requires { world.old.now ≡ new_world world.old.now.shape }
+    // Long, since the world's layout has no name of its own here.
     ensures found { IfOk result (λ found. found_of found
         ≡ found_after world.old.now.shape acts.now evictions (length acts.now)) }
     ensures errors { IfErr result (λ e. e ≡ Refusal.NoMemory) }

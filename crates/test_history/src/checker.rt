@@ -120,12 +120,7 @@ fn orders_explain_histories(rt: HostRuntime) -> Result<(), Fail> {
 }
 
 /// Whether the replay of an order leaves this.
-fn is_left(
-    alloc: Global,
-    history: &History,
-    placed: &[Placed],
-    left: &Left,
-) -> Result<bool, Fail> {
+fn is_left(alloc: Global, history: &History, placed: &[Placed], left: &Left) -> Result<bool, Fail> {
     let order = order(alloc, placed)?;
     let replayed = replay(alloc, history, &order)?;
     Ok(match (&replayed, left) {

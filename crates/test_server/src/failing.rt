@@ -346,12 +346,24 @@ fn a_pipe_that_fails_leaves_no_image(rt: HostRuntime) -> Result<(), Fail> {
     for (readable, writable, wanted) in &PIPES {
         let mut reader = FaultyReader::new(requests, *readable);
         let mut writer = FaultyWriter::new(alloc, *writable);
-        let left = pipe(&rt, alloc, opened(alloc, 2, 2, None)?, &mut reader, &mut writer);
+        let left = pipe(
+            &rt,
+            alloc,
+            opened(alloc, 2, 2, None)?,
+            &mut reader,
+            &mut writer,
+        );
         assert!(rt; left.err() == Some(*wanted), "{readable} {writable}");
     }
     let mut reader = FaultyReader::new(requests, usize::MAX);
     let mut writer = CountedWriter::new(Full);
-    let left = pipe(&rt, alloc, opened(alloc, 2, 2, None)?, &mut reader, &mut writer);
+    let left = pipe(
+        &rt,
+        alloc,
+        opened(alloc, 2, 2, None)?,
+        &mut reader,
+        &mut writer,
+    );
     assert!(rt; left.err() == Some(Refusal::WriteFailed));
     Ok(())
 }
