@@ -1,8 +1,9 @@
 //! The lines of a broker's transcript.
 
 ghost use Rattle.std.specs.Prelude.{◌≡◌};
+ghost use Rattle.std.specs.Fmt.{WritesOnOk};
 ghost use Rattle.grammar.specs.Grammar.{kind_word};
-ghost use Rattle.broker_script.specs.Prints.{rule_word};
+ghost use Rattle.broker_script.specs.Prints.{printed_text, rule_word};
 
 use arena::SlotId;
 use directory::{Name, Queue};
@@ -101,13 +102,82 @@ fn rule_word(rule: Rule) -> &'static str
     }
 }
 
+/// Writes which queue was created, where, and in how many steps.
+fn write_created<W: fmt::Write>(
+    f: &mut fmt::Formatter<W>,
+    name: &Name,
+    slot: SlotId,
+    steps: u64,
+) -> fmt::Result
+    ensures { WritesOnOk W.write_str_gives f.old result (printed_text (Printed.Created name.now slot steps)) f.new }
+{
+    write!(f, "created {name} slot {} steps {steps}", slot.0)
+}
+
+/// Writes which slot a queue has.
+fn write_found<W: fmt::Write>(f: &mut fmt::Formatter<W>, name: &Name, slot: SlotId) -> fmt::Result
+    ensures { WritesOnOk W.write_str_gives f.old result (printed_text (Printed.Found name.now slot)) f.new }
+{
+    write!(f, "found {name} slot {}", slot.0)
+}
+
+/// Writes the queue of a slot.
+fn write_place<W: fmt::Write>(f: &mut fmt::Formatter<W>, slot: SlotId, queue: &Queue) -> fmt::Result
+    ensures { WritesOnOk W.write_str_gives f.old result (printed_text (Printed.Place slot queue.now)) f.new }
+{
+    let kind = kind_word(queue.kind);
+    write!(f, "slot {} {} {kind}", slot.0, queue.name)
+}
+
+/// Writes which rule the words break.
+fn write_unsound<W: fmt::Write>(f: &mut fmt::Formatter<W>, rule: Rule) -> fmt::Result
+    ensures { WritesOnOk W.write_str_gives f.old result (printed_text (Printed.Unsound rule)) f.new }
+{
+    let refusal = Refusal::Damaged(rule);
+    let name = rule_word(rule);
+    write!(f, "refused {refusal} {name}")
+}
+
+/// Writes what a client was answered.
+fn write_reply<W: fmt::Write>(
+    f: &mut fmt::Formatter<W>,
+    name: &Name,
+    client: Client,
+    number: Option<u64>,
+    reply: Reply,
+) -> fmt::Result
+    ensures { WritesOnOk W.write_str_gives f.old result
+        (printed_text (Printed.Replied name.now client number reply)) f.new }
+{
+    match number {
+        Some(number) => write!(f, "{name}: reply {} {number} {reply}", client.0),
+        None => write!(f, "{name}: reply {} {reply}", client.0),
+    }
+}
+
+/// Writes which call began.
+fn write_call<W: fmt::Write>(
+    f: &mut fmt::Formatter<W>,
+    name: &Name,
+    client: Client,
+    number: u64,
+    call: Call,
+) -> fmt::Result
+    ensures { WritesOnOk W.write_str_gives f.old result
+        (printed_text (Printed.Begun name.now client number call)) f.new }
+{
+    match call {
+        Call::Enq(value) => write!(f, "{name}: call begin {} {number} enq {value}", client.0),
+        Call::Deq => write!(f, "{name}: call begin {} {number} deq", client.0),
+    }
+}
+
 /// `a: return 0 done steps 28`, `created a slot 0 steps 12`, `creating`, `found a slot 0`, `queues 2`,
 /// `slot 0 a durable`, `rotated`, `renewed`, `image bytes 2396 digest 09f3c1aa`, `set 5 was 1`, `booted`,
 /// `refused 29 Damaged Records`, `a: reply 0 1 done`, `a: reply 0 done`, `a: call begin 0 1 enq 05`, or a line of a
 /// queue's transcript.
 impl fmt::Display for Printed {
     ghost use Rattle.std.specs.Prelude.{Some};
-    ghost use Rattle.broker_script.specs.Prints.{printed_text};
 
     ghost output = { λ line. Some (printed_text line) };
 
@@ -115,50 +185,29 @@ impl fmt::Display for Printed {
         match self {
             Printed::Whole(line) => write!(f, "{line}"),
             Printed::Of { name, line } => write!(f, "{name}: {line}"),
-            Printed::Created { name, slot, steps } => {
-                write!(f, "created {name} slot {} steps {steps}", slot.0)
-            }
-            Printed::Creating => write!(f, "creating"),
-            Printed::Found { name, slot } => write!(f, "found {name} slot {}", slot.0),
+            Printed::Created { name, slot, steps } => write_created(f, name, *slot, *steps),
+            Printed::Creating => f.write_str("creating"),
+            Printed::Found { name, slot } => write_found(f, name, *slot),
             Printed::Queues(count) => write!(f, "queues {count}"),
-            Printed::Place { slot, queue } => {
-                let kind = kind_word(queue.kind);
-                write!(f, "slot {} {} {kind}", slot.0, queue.name)
-            }
-            Printed::Rotated => write!(f, "rotated"),
-            Printed::Renewed => write!(f, "renewed"),
+            Printed::Place { slot, queue } => write_place(f, *slot, queue),
+            Printed::Rotated => f.write_str("rotated"),
+            Printed::Renewed => f.write_str("renewed"),
             Printed::Image { size, digest } => write!(f, "image bytes {size} digest {digest}"),
             Printed::WasSet { word, was } => write!(f, "set {word} was {was}"),
-            Printed::Booted => write!(f, "booted"),
-            Printed::Unsound(rule) => {
-                let refusal = Refusal::Damaged(*rule);
-                let name = rule_word(*rule);
-                write!(f, "refused {refusal} {name}")
-            }
+            Printed::Booted => f.write_str("booted"),
+            Printed::Unsound(rule) => write_unsound(f, *rule),
             Printed::Replied {
                 name,
                 client,
-                number: Some(number),
+                number,
                 reply,
-            } => write!(f, "{name}: reply {} {number} {reply}", client.0),
-            Printed::Replied {
-                name,
-                client,
-                number: None,
-                reply,
-            } => write!(f, "{name}: reply {} {reply}", client.0),
+            } => write_reply(f, name, *client, *number, *reply),
             Printed::Begun {
                 name,
                 client,
                 number,
-                call: Call::Enq(value),
-            } => write!(f, "{name}: call begin {} {number} enq {value}", client.0),
-            Printed::Begun {
-                name,
-                client,
-                number,
-                call: Call::Deq,
-            } => write!(f, "{name}: call begin {} {number} deq", client.0),
+                call,
+            } => write_call(f, name, *client, *number, *call),
         }
     }
 }
