@@ -1,7 +1,12 @@
 -- What a creation's step opened is in the directory.
-use Rattle.std.proofs.Common.{◌≡◌, refl, ap, ◌∙◌, subst, arith}
-use Rattle.std.specs.Prelude.{Option, Some, None, Ok, Err, IfSome, is_some, slice_get, slice_set}
+use Rattle.std.proofs.Common.{◌≡◌, refl, sym, ap, ◌∙◌, subst, arith, ℕ, ◌<◌, get_or, length}
+use Rattle.std.specs.Prelude.{Option, Some, None, Result, Ok, Err, IfErr, IfSome, IsOk, IsSome, is_some, slice_get, slice_set, unwrap_or}
+use Rattle.std.proofs.lemmas.Bool.{false≢true}
+use Rattle.std.proofs.lemmas.Option.{slice_get_read, slice_get_within}
+use Rattle.words.specs.declared.refusal.Refusal.{Refusal}
+use Rattle.words.specs.declared.refusal.Refusal.TheVariants.{NotReady}
 use Rattle.arena.specs.declared.broker.SlotId.{SlotId}
+use Rattle.arena.specs.declared.broker.TheConstants.{SLOTS}
 use Rattle.directory.proofs.Facts.{set_here}
 use Rattle.directory.specs.Creation.{after_point, next_of, successor}
 use Rattle.directory.specs.Directory.{Directory, HasQueue}
@@ -12,7 +17,7 @@ use Rattle.directory.specs.declared.creation.SlotWord.TheVariants.{FirstName, Se
 use Rattle.directory.specs.declared.queue.Queue.{Queue}
 use Rattle.named.specs.Brokers.{Brokered, IsDirectoryAt, IsOpened, IsStepCreated, IsWell}
 use Rattle.named.specs.declared.recovery.BrokerRecovery.{BrokerRecovery}
-use Rattle.broker_script.specs.Creating.{IsCreationAnswered}
+use Rattle.broker_script.specs.Creating.{HasSomeQueue, IsCreationAnswered}
 
 -- the slot that a step opened is the creation's
 opened_by : (old new : Brokered) (creation : Creation) (slot : SlotId) (at : CreationPoint)
@@ -67,3 +72,31 @@ pub opened_if : (old new : Brokered) (o : Option SlotId) → IsWell old → IsCr
 opened_if old new None well step = tt
 opened_if old new (Some slot) well step =
     let there = opened_there old new slot well step in (there.queue, there.has)
+
+-- a slot with a queue is one of the eight
+pub within_places : (b : Brokered) → IsWell b → (slot : ℕ) → HasSomeQueue b.directory slot → slot < SLOTS
+within_places b well slot has =
+    subst (λ (n : ℕ). slot < n) well.listed.count (slice_get_within b.directory slot (Some has.0) has.1)
+
+-- what is refused only while recovery is under way is not refused once it has ended
+pub ready_is_ok : {T : Type 0} (r : Result T Refusal) (recovery : Option BrokerRecovery)
+    → IfErr r (λ e. (e ≡ NotReady) × IsSome recovery) → recovery ≡ None → IsOk r
+ready_is_ok (Ok t) recovery refused none = refl
+ready_is_ok (Err e) recovery refused none = absurd (false≢true (subst IsSome none refused.1))
+
+-- the queue that was read in its place
+module _ (directory places : Directory) (slot : ℕ) (read : Option Queue) (same : places ≡ directory)
+    (has : HasSomeQueue directory slot) (is : read ≡ get_or places slot read) where
+  here : slice_get places slot ≡ Some (Some has.0)
+  here = ap (λ (d : Directory). slice_get d slot) same ∙ has.1
+
+  read_here : slice_get places slot ≡ Some read
+  read_here = slice_get_read places (length places) slot read refl (slice_get_within places slot (Some has.0) here) is
+
+  pub is_read : IsSome (get_or places slot read)
+  is_read =
+      let value : read ≡ Some has.0 = ap (λ (o : Option (Option Queue)). unwrap_or o read) (sym read_here ∙ here) in
+      subst IsSome (sym value ∙ is) refl
+
+  pub read_queue : (found : Queue) → get_or places slot read ≡ Some found → HasQueue directory slot found
+  read_queue found some = ap (λ (d : Directory). slice_get d slot) (sym same) ∙ read_here ∙ ap Some (is ∙ some)

@@ -19,10 +19,6 @@ use Rattle.broker_script.specs.declared.printed.Printed.TheVariants.{Whole, Crea
 abbrev pub HasSomeQueue : Directory → ℕ → Type 0
 HasSomeQueue directory slot = (queue : Queue) × HasQueue directory slot queue
 
--- where no recovery is under way and the slot has a queue, it is found
-abbrev pub IsFoundWhenReady : Brokered → ℕ → Option Queue → Type 0
-IsFoundWhenReady b slot found = b.recovery ≡ None → (queue : Queue) → HasQueue b.directory slot queue → IsSome found
-
 -- the line of the slot's queue, with the steps that its creation took
 abbrev pub ShowsCreated : Played → SlotId → List Printed → Type 0
 ShowsCreated p slot lines =

@@ -2,7 +2,7 @@
 
 ghost use Rattle.std.specs.Prelude.{◌≡◌, IfOk, IfErr, IfSome, IfNone, None};
 ghost use Rattle.directory.specs.Directory.{HasQueue};
-ghost use Rattle.broker_script.specs.Creating.{BeginsCreation, Creates, HasSomeQueue, IsBegunOn, IsCreatedOn, IsFoundWhenReady, ShowsCreated};
+ghost use Rattle.broker_script.specs.Creating.{BeginsCreation, Creates, HasSomeQueue, IsBegunOn, IsCreatedOn, ShowsCreated};
 ghost use Rattle.broker_script.specs.PutOff.{PutsOff};
 
 use crate::lines::Room;
@@ -15,18 +15,14 @@ use std::alloc::Global;
 use words::{Kind, Refusal};
 
 impl Player {
-    /// The queue in a slot, if there is one, while no recovery is under way.
-    fn queue_in(&self, slot: SlotId) -> Option<Queue>
-        ensures found { IfSome result (HasQueue self.now.broker.directory slot.0) }
-        ensures none { IsFoundWhenReady self.now.broker slot.0 result }
+    /// The queue in a slot that has one, while no recovery is under way.
+    fn queue_in(&self, slot: SlotId) -> Queue
+        requires ready { self.now.broker.recovery ≡ None }
+        requires opened { HasSomeQueue self.now.broker.directory slot.0 }
+        ensures { HasQueue self.now.broker.directory slot.0 result }
     {
-        let Ok(places) = self.session.broker().list() else {
-            return None;
-        };
-        match places.get(slot.0 as usize) {
-            Some(place) => *place,
-            None => None,
-        }
+        let places = self.session.broker().list().unwrap();
+        places[slot.0 as usize].unwrap()
     }
 
     /// Shows the queue that a creation opened in a slot.
@@ -35,7 +31,7 @@ impl Player {
         requires opened { HasSomeQueue self.now.broker.directory slot.0 }
         ensures line { ShowsCreated self.now slot result.items }
     {
-        let queue = self.queue_in(slot).unwrap();
+        let queue = self.queue_in(slot);
         room.fill(Printed::Created {
             name: queue.name,
             slot,
