@@ -1,6 +1,6 @@
 -- A call on a queue of a broker, as a play of that queue alone.
-use Rattle.std.proofs.Common.{◌≡◌, ◌≢◌, refl, sym, ap, ap₂, ◌∙◌, subst, ℕ, false, List, arith}
-use Rattle.std.specs.Prelude.{Option, Some, None, Result, Ok, Err, IsSome, IfOk, OnOk, slice_get, slice_index, unwrap_or}
+use Rattle.std.proofs.Common.{◌≡◌, ◌≢◌, refl, sym, ap, ap₂, ◌∙◌, subst, ℕ, zero, suc, false, List, [], ◌∷◌, arith}
+use Rattle.std.specs.Prelude.{Option, Some, None, Result, Ok, Err, IsSome, IfOk, OnOk, slice_get, slice_index, slice_set, unwrap_or}
 use Rattle.words.specs.declared.call.Call.{Call}
 use Rattle.words.specs.declared.call.Client.{Client}
 use Rattle.words.specs.declared.call.Reply.{Reply}
@@ -12,6 +12,7 @@ use Rattle.interleave.specs.Rules.{starting, stepping}
 use Rattle.interleave.specs.State.{State, step_result}
 use Rattle.named.specs.Acting.{IsActAt, IsSameBeside}
 use Rattle.named.specs.Brokers.{Brokered, IsWell, world_at}
+use Rattle.session.specs.Sessions.{Sessioned}
 use Rattle.playing.specs.Play.{Play, play_after_start, play_after_step, steps_with}
 use Rattle.playing.specs.Steps.{call_counted, count_after}
 use Rattle.playing.specs.declared.lines.Line.{Line}
@@ -60,12 +61,32 @@ step_refused old new slot client refusal alone same =
     (ap (λ (l : List Steps). unwrap_or (slice_get l slot) no_steps) same)
 
 -- a step that is made, and counted
-pub step_made : (old new : Played) (slot : ℕ) (client : Client) (answer : Option Reply)
-    → IsAsAlone (stepping client) slot old.broker (Ok answer) new.broker
-    → steps_at new slot ≡ call_counted 1 client (steps_at old slot)
-    → play_at new slot ≡ play_after_step (play_at old slot) client
-step_made old new slot client answer alone counted =
-    ap₂ (λ (w : State) (s : Steps). record { world = w; steps = s }) (is_world new.broker slot _ alone.world) counted
+pub step_made : (p inside : Played) → inside ≡ p → (s : Sessioned) (new : Played) (slot : ℕ) (client : Client)
+    (answer : Option Reply) → IsAsAlone (stepping client) slot p.broker (Ok answer) s.broker
+    → steps_at new slot ≡ call_counted 1 client (steps_at inside slot)
+    → new ≡ record inside { broker = s.broker; kept = s.kept; steps = new.steps }
+    → play_at new slot ≡ play_after_step (play_at p slot) client
+step_made p inside is s new slot client answer alone counted made =
+    ap₂ (λ (w : State) (steps : Steps). record { world = w; steps = steps })
+    (ap (λ (x : Played). the_world x.broker slot) made ∙ is_world s.broker slot _ alone.world)
+    (counted ∙ ap (λ (x : Played). call_counted 1 client (steps_at x slot)) is)
+
+-- and its answer
+pub step_answered : (p inside : Played) → inside ≡ p → (b : Brokered) (slot : ℕ) (client : Client)
+    (answer : Option Reply) (steps : ℕ) (line : Option Line) → IsAsAlone (stepping client) slot p.broker (Ok answer) b
+    → steps ≡ count_after 1 (slice_index (steps_at inside slot).calls client.0) → line ≡ answer_line client steps answer
+    → IsAnsweredBy (play_at p slot) client line
+step_answered p inside is b slot client answer steps line alone counted gives = record {
+  answer = answer;
+  answered = sym alone.answers;
+  is = gives ∙ ap (λ (n : ℕ). answer_line client n answer)
+      (counted ∙ ap (λ (x : Played). count_after 1 (slice_index (steps_at x slot).calls client.0)) is);
+}
+
+-- the queue is still there
+pub still_open : (b : Brokered) (new : Played) (slot : ℕ) (w : State) → new.broker ≡ b → world_at b slot ≡ Some w
+    → IsSome (world_at new.broker slot)
+still_open b new slot w same is = subst IsSome (sym (ap (λ (x : Brokered). world_at x slot) same ∙ is)) refl
 
 -- nothing but the queue's own
 pub only_in : (slot : ℕ) (old new : Played) → IsSameBeside slot old.broker new.broker
@@ -73,6 +94,38 @@ pub only_in : (slot : ℕ) (old new : Played) → IsSameBeside slot old.broker n
     → new.creation ≡ old.creation → new.recovery ≡ old.recovery → new.image ≡ old.image → IsOnlyIn slot old new
 only_in slot old new beside steps creation recovery image =
     record { beside = beside; steps = steps; creation = creation; recovery = recovery; image = image }
+
+-- what was not written is as it was
+pub set_beside : {X : Type 0} (xs : List X) (i : ℕ) (x : X) (k : ℕ) → k ≢ i
+    → slice_get (slice_set xs i x) k ≡ slice_get xs k
+set_beside [] i x k apart = refl
+set_beside (y ∷ xs) zero x zero apart = absurd (apart refl)
+set_beside (y ∷ xs) zero x (suc k) apart = refl
+set_beside (y ∷ xs) (suc i) x zero apart = refl
+set_beside (y ∷ xs) (suc i) x (suc k) apart = set_beside xs i x k (λ e. apart (ap suc e))
+
+-- a call that began, and has made no step
+pub start_made : (p inside : Played) → inside ≡ p → (s : Sessioned) (new : Played) (slot : ℕ) (client : Client)
+    (number : ℕ) (call : Call) → IsAsAlone (starting client number call) slot p.broker (Ok tt) s.broker
+    → steps_at new slot ≡ steps_with client (steps_at inside slot) (Ok tt)
+    → new ≡ record inside { broker = s.broker; kept = s.kept; steps = new.steps }
+    → play_at new slot ≡ play_after_start (play_at p slot) client number call
+start_made p inside is s new slot client number call alone counted made =
+    ap₂ (λ (w : State) (steps : Steps). record { world = w; steps = steps })
+    (ap (λ (x : Played). the_world x.broker slot) made ∙ is_world s.broker slot _ alone.world)
+    (counted ∙ ap (λ (x : Played). steps_with client (steps_at x slot) (Ok tt)) is
+    ∙ ap (λ (r : Result Unit Refusal). steps_with client (steps_at p slot) r) alone.answers)
+
+-- an act of a session on one queue, whose steps alone are counted
+pub acted_only : (p inside : Played) → inside ≡ p → (s : Sessioned) (new : Played) (slot : ℕ)
+    → IsSameBeside slot inside.broker s.broker
+    → ((other : ℕ) → other ≢ slot → slice_get new.steps other ≡ slice_get inside.steps other)
+    → new ≡ record inside { broker = s.broker; kept = s.kept; steps = new.steps } → IsOnlyIn slot p new
+acted_only p inside is s new slot beside others made =
+    subst (λ (x : Played). IsOnlyIn slot x new) is
+    (only_in slot inside new
+    (subst (λ (x : Played). IsSameBeside slot inside.broker x.broker) (sym made) beside) others
+    (ap (λ (x : Played). x.creation) made) (ap (λ (x : Played). x.recovery) made) (ap (λ (x : Played). x.image) made))
 
 same_directory : (old mid new : Words) → HaveSameDirectory old mid → HaveSameDirectory mid new → HaveSameDirectory old new
 same_directory old mid new one other = record {

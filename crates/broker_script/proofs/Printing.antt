@@ -1,6 +1,6 @@
 -- A beginning of a transcript.
 use Rattle.std.proofs.Common.{ℕ, List}
-use Rattle.std.specs.Prelude.{Option, Some, None}
+use Rattle.std.specs.Prelude.{Option, Some, None, Result, Ok, Err, IsErrOf, OnErr}
 use Rattle.std.specs.Io.KnownBytes.{Appends}
 use Rattle.devices.specs.Devices.{AppendsBeginning}
 use Rattle.broker_script.specs.Run.{Prints, PrintsBeginning, SaysInput}
@@ -19,3 +19,8 @@ pub prints : (input old new : Option (List ℕ)) (script : Scripted) (printed : 
 prints None old new script printed says transcript sent = tt
 prints (Some text) old new script printed says transcript sent =
     (printed, record { script = script; says = says; transcript = transcript }, sent)
+
+-- what holds on an error, where there is one
+pub err_had : {T E P : Type 0} (r : Result T E) (e : E) → IsErrOf r e → OnErr r P → P
+err_had (Ok t) e failed holds = absurd (cc (failed))
+err_had (Err d) e failed holds = holds

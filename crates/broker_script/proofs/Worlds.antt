@@ -1,5 +1,5 @@
 -- The queue of a slot in a broker that is ready is a world that acts as one alone does.
-use Rattle.std.proofs.Common.{◌≡◌, ◌≢◌, refl, sym, ap, ◌∙◌, ℕ, ◌<◌, ◌≤◌, Bool, true, false, arith, length, get_or, if◌then◌else◌}
+use Rattle.std.proofs.Common.{◌≡◌, ◌≢◌, refl, sym, ap, ap₂, ◌∙◌, subst, ℕ, List, ◌<◌, ◌≤◌, Bool, true, false, length, get_or, if◌then◌else◌}
 use Rattle.std.proofs.lemmas.Bool.{false≢true}
 use Rattle.std.proofs.lemmas.Option.{slice_get_past, slice_get_within, slice_get-get_or}
 use borrow.Author.Tests.{ltb-false}
@@ -14,16 +14,19 @@ use Rattle.arena.specs.Shape.{shape_of}
 use Rattle.arena.specs.declared.broker.TheConstants.{SLOTS}
 use Rattle.directory.specs.Directory.{HasQueue}
 use Rattle.directory.specs.declared.queue.Queue.{Queue}
+use Rattle.events.specs.declared.event.Entry.{Entry}
+use Rattle.events.specs.declared.event.Event.{Event}
 use Rattle.interleave.specs.Calls.{is_no_memory, waiting_result}
 use Rattle.interleave.specs.Rules.{Rule, starting, stepping}
 use Rattle.interleave.proofs.Facts.{unstarted_by_nobody}
-use Rattle.interleave.specs.State.{State, new_world, after_start, after_step, is_down as is_world_down, start_result, start_result_with, start_with, step_result, step_result_with, step_with}
+use Rattle.interleave.specs.State.{State, new_world, order_in, after_start, after_step, is_down as is_world_down, start_result, start_result_with, start_with, step_result, step_result_with, step_with}
 use Rattle.protocol.specs.declared.UnderWay.{UnderWay}
 use Rattle.named.specs.Acting.{IsActAt}
 use Rattle.named.specs.Brokers.{Brokered, IsWell, admission, answer_if, answer_at, has_client, world_at, world_of}
-use Rattle.named.specs.Slots.{acted, answered}
+use Rattle.named.specs.Slots.{acted, answered, IfWorld}
 use Rattle.named.specs.declared.slot.Slot.{Slot}
 use Rattle.named.specs.declared.slot.Slot.TheVariants.{Closed, Open}
+use Rattle.playing.specs.Transcript.{order_lines}
 use Rattle.broker_script.specs.Play.{the_world}
 
 -- what is there is what it is
@@ -37,25 +40,40 @@ open_world b slot is_open = some_or (world_at b slot) (new_world (shape_of Durab
 pub is_world : (b : Brokered) (slot : ℕ) (w : State) → world_at b slot ≡ Some w → the_world b slot ≡ w
 is_world b slot w is = ap (λ (o : Option State). unwrap_or o (new_world (shape_of Durable b.counts))) is
 
+-- the order that its world has, as lines
+order_from : (o : Option State) (other : State) (events : List Event) (entries : List Entry) → IsSome o
+    → IfWorld o (λ w. events ≡ w.log.events) → IfWorld o (λ w. entries ≡ order_in w)
+    → order_lines events entries ≡ order_lines (unwrap_or o other).log.events (order_in (unwrap_or o other))
+order_from (Some w) other events entries there events_are order_is = ap₂ order_lines events_are order_is
+order_from None other events entries there events_are order_is = absurd (false≢true there)
+
+pub order_there : (b : Brokered) (slot : ℕ) (events : List Event) (entries : List Entry) → IsSome (world_at b slot)
+    → IfWorld (world_at b slot) (λ w. events ≡ w.log.events) → IfWorld (world_at b slot) (λ w. entries ≡ order_in w)
+    → order_lines events entries ≡ order_lines (the_world b slot).log.events (order_in (the_world b slot))
+order_there b slot events entries is_open events_are order_is =
+    order_from (world_at b slot) (new_world (shape_of Durable b.counts)) events entries is_open events_are order_is
+
 -- a slot with a queue is one of the eight
 within : (b : Brokered) → IsWell b → (slot : ℕ) (o : Option Slot) → slice_get b.slots slot ≡ o → IsSome (world_of b.words o)
     → slot < SLOTS
-within b well slot (Some s) is there = omega (arith, slice_get_within b.slots slot s is, well.count)
+within b well slot (Some s) is there = subst (λ (n : ℕ). slot < n) well.count (slice_get_within b.slots slot s is)
 within b well slot None is there = absurd (false≢true there)
 
 pub open_within : (b : Brokered) → IsWell b → (slot : ℕ) → IsSome (world_at b slot) → slot < SLOTS
 open_within b well slot is_open = within b well slot (slice_get b.slots slot) refl is_open
 
+-- nothing is something
+none_is_some : {A B : Type 0} (a : A) → None ≡ Some a → B
+none_is_some a e = absurd (cc (e))
+
 -- its world has as many clients as the broker
 clients_of : (b : Brokered) → IsWell b → (slot : ℕ) (o : Option Slot) → slice_get b.slots slot ≡ o → (w : State)
     → world_of b.words o ≡ Some w → length w.calls ≡ b.counts.clients
-clients_of b well slot (Some Closed) is w here = absurd (cc)
+clients_of b well slot (Some Closed) is w here = none_is_some w here
 clients_of b well slot (Some (Open block)) is w here =
     let at = well.slots slot (Open block) is in
-    let count : length block.core.calls ≡ block.core.shape.clients = at.well.holds.safe.clients in
-    let shape : block.core.shape.clients ≡ b.counts.clients = ap (λ s. s.clients) at.shape in
-    cc
-clients_of b well slot None is w here = absurd (cc)
+    ap (λ (o : Option State). length (unwrap_or o w).calls) (sym here) ∙ at.well.holds.safe.clients ∙ ap (λ s. s.clients) at.shape
+clients_of b well slot None is w here = none_is_some w here
 
 pub world_clients : (b : Brokered) → IsWell b → (slot : ℕ) (w : State) → world_at b slot ≡ Some w
     → length w.calls ≡ b.counts.clients
@@ -65,8 +83,8 @@ world_clients b well slot w here = clients_of b well slot (slice_get b.slots slo
 pub no_place : (b : Brokered) → IsWell b → (slot : ℕ) (w : State) → world_at b slot ≡ Some w → (client : Client)
     → has_client b client ≡ false → slice_get w.calls client.0 ≡ None
 no_place b well slot w here client away =
-    let far : b.counts.clients ≤ client.0 = ltb-false _ _ away in
-    slice_get_past w.calls client.0 (omega (arith, world_clients b well slot w here))
+    slice_get_past w.calls client.0
+    (subst (λ (n : ℕ). n ≤ client.0) (sym (world_clients b well slot w here)) (ltb-false _ _ away))
 
 -- who is admitted
 pub admitted : (b : Brokered) (client : Client) → has_client b client ≡ true → b.recovery ≡ None
@@ -191,13 +209,12 @@ stepped_alone slot client old result new act well ready is_open memory =
 -- a slot that the directory has a queue for is open
 listed : (b : Brokered) → IsWell b → (slot : ℕ) (queue : Queue) → HasQueue b.directory slot queue → (o : Option Slot)
     → slice_get b.slots slot ≡ o → IsSome (world_of b.words o)
-listed b well slot queue has (Some Closed) is =
-    let kind : None ≡ Some queue.kind = well.kinds slot Closed (Some queue) is has in absurd (cc)
+listed b well slot queue has (Some Closed) is = none_is_some queue.kind (well.kinds slot Closed (Some queue) is has)
 listed b well slot queue has (Some (Open block)) is = refl
 listed b well slot queue has None is =
-    let small : slot < length b.slots = omega (arith, slice_get_within b.directory slot (Some queue) has, well.listed.count, well.count) in
-    let there : slice_get b.slots slot ≡ Some (get_or b.slots slot Closed) = slice_get-get_or b.slots slot Closed small in
-    absurd (cc)
+    let small : slot < length b.slots =
+    subst (λ (n : ℕ). slot < n) (well.listed.count ∙ sym well.count) (slice_get_within b.directory slot (Some queue) has) in
+    none_is_some (get_or b.slots slot Closed) (sym is ∙ slice_get-get_or b.slots slot Closed small)
 
 pub listed_open : (b : Brokered) → IsWell b → (slot : ℕ) (queue : Queue) → HasQueue b.directory slot queue
     → IsSome (world_at b slot)

@@ -132,7 +132,7 @@ impl Player {
     }
 
     /// No step was made of the call that a client began in the queue of a slot.
-    fn begin_count(&mut self, slot: SlotId, client: Client)
+    pub(crate) fn begin_count(&mut self, slot: SlotId, client: Client)
         requires { slot.0 < SLOTS }
         ensures steps { steps_at self.new slot.0 ≡ steps_with client (steps_at self.old slot.0) (Ok tt) }
         ensures others { (other : ℕ) → other ≢ slot.0

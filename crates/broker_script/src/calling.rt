@@ -1,12 +1,12 @@
 //! Lines on a queue of a broker that follows a script.
 
-ghost use Rattle.std.specs.Prelude.{◌≡◌, ◌≢◌, ◌<◌, ◌∷◌, [], ℕ, false, true, Ok, Err, None, Some, IsSome, IfOk, IfErr, IsErrOf, OnOk, OnErr, option_to_list, slice_get, slice_index};
+ghost use Rattle.std.specs.Prelude.{◌≡◌, ◌≢◌, ◌<◌, ◌++◌, ◌∷◌, [], ℕ, false, true, Ok, Err, None, Some, IsSome, IfOk, IfErr, IsErrOf, OnOk, OnErr, option_to_list, slice_get, slice_index};
 ghost use Rattle.interleave.specs.State.{start_result};
 ghost use Rattle.named.specs.Brokers.{world_at};
 ghost use Rattle.named.specs.Finding.{IsPlaced};
 ghost use Rattle.playing.specs.Play.{after_steps, play_after_step};
 ghost use Rattle.playing.specs.Steps.{call_counted, count_after};
-ghost use Rattle.playing.specs.Transcript.{command_lines, start_line, step_lines};
+ghost use Rattle.playing.specs.Transcript.{command_lines, entry_lines, order_lines, start_line, step_lines};
 ghost use Rattle.grammar.specs.Grammar.{is_shown};
 ghost use Rattle.broker_script.specs.Grammar.{is_whole};
 ghost use Rattle.broker_script.specs.OnQueue.{answer_line, has_line, Follows, FollowsOn, FollowsPlaced, IsAnsweredBy, IsFollowedIn, IsOnlyIn, IsLeftByStartIn, IsWhyNoStep};
@@ -19,6 +19,7 @@ use crate::printed::Printed;
 use crate::rows::is_whole;
 use arena::{SLOTS, SlotId};
 use directory::Name;
+use events::{Entry, Events};
 use grammar::{Command, is_on, is_shown};
 use playing::{Line, Unfollowed, Values, add, named_call};
 use std::alloc::Global;
@@ -68,6 +69,29 @@ fn answer_line(client: Client, answer: Option<Reply>, steps: u64) -> Option<Line
     })
 }
 
+/// Adds the call that an entry of an order names; one that named none would show nothing.
+fn add_entry(lines: &mut Vec<Line>, events: &Events, entry: Entry) -> Result<(), Refusal>
+    ensures lines { OnOk result (lines.new.items ≡ lines.old.items ++ entry_lines events.now.items entry) }
+    ensures errors { IfErr result (λ e. e ≡ Refusal.NoMemory) }
+{
+    match named_call(events, entry) {
+        Some(ordered) => add(lines, Line::Entry(ordered)),
+        None => Ok(()),
+    }
+}
+
+/// How many calls took effect, and each of them in its place.
+fn order_lines(alloc: Global, events: &Events, entries: &[Entry]) -> Result<Vec<Line>, Refusal>
+    ensures lines { IfOk result (λ lines. lines.items ≡ order_lines events.now.items entries.now) }
+    ensures errors { IfErr result (λ e. e ≡ Refusal.NoMemory) }
+{
+    let mut lines = one_line(alloc, Line::Order(entries.len()))?;
+    for entry in entries {
+        add_entry(&mut lines, events, *entry)?;
+    }
+    Ok(lines)
+}
+
 impl Player {
     /// The slot of the queue of this name. It is refused while recovery is under way (NotReady), and where there is no
     /// such queue (NoQueue).
@@ -109,7 +133,7 @@ impl Player {
     {
         match self.session.start(client, slot, number, call) {
             Ok(()) => {
-                self.steps[slot.0 as usize].begin(client);
+                self.begin_count(slot, client);
                 Ok(())
             }
             Err(refusal) => Err(refusal),
@@ -187,13 +211,7 @@ impl Player {
     {
         let order = self.session.broker().order(slot)?;
         let history = self.session.broker().history(slot).unwrap();
-        let mut lines = one_line(alloc, Line::Order(order.entries.as_slice().len()))?;
-        for entry in order.entries.as_slice() {
-            if let Some(ordered) = named_call(&history.events, *entry) {
-                add(&mut lines, Line::Entry(ordered))?;
-            }
-        }
-        Ok(lines)
+        order_lines(alloc, &history.events, order.entries.as_slice())
     }
 
     /// Follows a call's line on the queue in a slot, and answers what it gives.
