@@ -146,6 +146,7 @@ fn write_reply<W: fmt::Write>(
     number: Option<u64>,
     reply: Reply,
 ) -> fmt::Result
+    // Long, since it names each part of the line, and what that is written to.
     ensures { WritesOnOk W.write_str_gives f.old result
         (printed_text (Printed.Replied name.now client number reply)) f.new }
 {
