@@ -30,23 +30,43 @@ pub(crate) fn begun(alloc: Global, image: &[u8]) -> Result<Broker, Refusal> {
     Broker::boot(alloc, Memory::from_image(alloc, image)?)
 }
 
-/// Whether a broker that began on an image has its words, recovers, answers, and leaves an image on which another one
-/// begins and recovers.
-pub(crate) fn serves(alloc: Global, mut broker: Broker, image: &[u8]) -> Result<bool, Refusal> {
+/// Whether each queue answers as the image's words say.
+fn all_answer(
+    alloc: Global,
+    broker: &mut Broker,
+    plain: &PlainBroker<'_>,
+) -> Result<bool, Refusal> {
+    let mut right = true;
+    for slot in 0..SLOTS as u8 {
+        right &= match plain.queue(u64::from(slot)) {
+            None => broker.kind(SlotId(slot)) == Err(Refusal::NoQueue),
+            Some(queue) => answers(alloc, broker, slot, &queue)?,
+        };
+    }
+    Ok(right)
+}
+
+/// Whether a broker has an image's words, recovers, and answers.
+fn goes_on(alloc: Global, broker: &mut Broker, image: &[u8]) -> Result<bool, Refusal> {
+    let same = broker.to_image()?.as_slice() == image;
+    recover(broker)?;
     let words = words_in(alloc, image)?;
     let plain = PlainBroker {
         words: words.as_slice(),
     };
-    let mut right = broker.to_image()?.as_slice() == image;
-    recover(&mut broker)?;
-    for slot in 0..SLOTS as u8 {
-        match plain.queue(u64::from(slot)) {
-            None => right &= broker.kind(SlotId(slot)) == Err(Refusal::NoQueue),
-            Some(queue) => right &= answers(alloc, &mut broker, slot, &queue)?,
-        }
-    }
-    let left = broker.to_image()?;
-    let mut next = begun(alloc, left.as_slice())?;
-    recover(&mut next)?;
+    Ok(all_answer(alloc, broker, &plain)? && same)
+}
+
+/// Another broker begins on an image, and recovers.
+fn begins_again(alloc: Global, image: &[u8]) -> Result<u32, Refusal> {
+    let mut next = begun(alloc, image)?;
+    recover(&mut next)
+}
+
+/// Whether a broker that began on an image has its words, recovers, answers, and leaves an image on which another one
+/// begins and recovers.
+pub(crate) fn serves(alloc: Global, mut broker: Broker, image: &[u8]) -> Result<bool, Refusal> {
+    let right = goes_on(alloc, &mut broker, image)?;
+    begins_again(alloc, broker.to_image()?.as_slice())?;
     Ok(right)
 }
