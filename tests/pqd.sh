@@ -443,10 +443,12 @@ try third-run 0 pipe --image "$image" < tests/pqd/third-run.in
 
 # Ten times as many calls as their client has records. Then it fills the queue, until a renewal would leave it none: it
 # is told NoRoom, and another client's take makes room for its put.
-serve --clients 2 --records 4 --workers 1 --renew
+rm "$image"
+serve --clients 2 --records 4 --workers 1 --renew --image "$image"
 over_connection beyond-records
 stop
 ends 'serve renewals' 0 /dev/null
+try beyond-records-told 0 pipe --image "$image" < tests/pqd/beyond-records-told.in
 
 # A connection that ends in the middle of a line, or without reading its replies, ends alone. What is said of it on
 # standard error is one line for each, if any.
