@@ -436,7 +436,7 @@ serve --clients 1 --records 2 --image "$image" --workers 2
 exec 4<> "/dev/tcp/127.0.0.1/$port"
 over_connection first-run
 stop
-replies_to second-run 4
+replies_to after-a-stop 4
 exec 4>&-
 ends 'serve after a stop' 0 /dev/null
 try third-run 0 pipe --image "$image" < tests/pqd/third-run.in
