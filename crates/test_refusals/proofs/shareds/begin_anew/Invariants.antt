@@ -1,5 +1,5 @@
 use Rattle.std.proofs.Common.{◌≡◌}
-use Rattle.test_refusals.proofs.shareds.rotate.Given as goal
+use Rattle.test_refusals.proofs.shareds.begin_anew.Given as goal
 
 -- it is the same client's seat
 abbrev pub invariant-loop : goal.invariant-loop
