@@ -61,7 +61,7 @@ struct Story {
     replies: Lines,
 }
 
-fn story(alloc: Global) -> Result<Story, AllocError> {
+fn the_story(alloc: Global) -> Result<Story, AllocError> {
     let (mut requests, mut replies) = (Lines::new(alloc), Lines::new(alloc));
     for (request, reply) in &STORY {
         requests.add(request)?;
@@ -214,7 +214,7 @@ const SOUND: Limits = Limits {
 
 #[test]
 fn a_byte_at_a_time(rt: HostRuntime) -> Result<(), Fail> {
-    let story = story(rt.alloc())?;
+    let story = the_story(rt.alloc())?;
     assert_eq!(rt; story.requests.bytes.len(), REQUEST_BYTES);
     let limits = Limits { each: 1, ..SOUND };
     let wanted = Wanted {
@@ -228,7 +228,7 @@ fn a_byte_at_a_time(rt: HostRuntime) -> Result<(), Fail> {
 /// All lines come at once, so all requests are made before their replies go. A flush fails where all bytes were taken.
 #[test]
 fn a_writer_fails_after_each_byte(rt: HostRuntime) -> Result<(), Fail> {
-    let story = story(rt.alloc())?;
+    let story = the_story(rt.alloc())?;
     for writable in 0..=REPLY_BYTES {
         let limits = Limits { writable, ..SOUND };
         let wanted = Wanted {
@@ -244,7 +244,7 @@ fn a_writer_fails_after_each_byte(rt: HostRuntime) -> Result<(), Fail> {
 /// Each line comes by itself, so its reply goes before the next request is made.
 #[test]
 fn a_slow_writer_fails_after_each_byte(rt: HostRuntime) -> Result<(), Fail> {
-    let story = story(rt.alloc())?;
+    let story = the_story(rt.alloc())?;
     for writable in 1..=REPLY_BYTES {
         let limits = Limits {
             writable,
@@ -288,7 +288,7 @@ fn tried_readers<T: Wait + Abort>(
 
 #[test]
 fn a_reader_fails_after_each_byte(rt: HostRuntime) -> Result<(), Fail> {
-    let story = story(rt.alloc())?;
+    let story = the_story(rt.alloc())?;
     for each in [1, 7, usize::MAX] {
         tried_readers(&rt, rt.alloc(), &story, each)?;
     }
@@ -299,7 +299,7 @@ fn a_reader_fails_after_each_byte(rt: HostRuntime) -> Result<(), Fail> {
 /// of it is written.
 #[test]
 fn a_desk_fails_after_each_settle(rt: HostRuntime) -> Result<(), Fail> {
-    let story = story(rt.alloc())?;
+    let story = the_story(rt.alloc())?;
     for settled in 0..STORY.len() {
         let limits = Limits {
             each: 1,
@@ -341,7 +341,7 @@ static PIPES: [(usize, usize, Refusal); 3] = [
 #[test]
 fn a_pipe_that_fails_leaves_no_image(rt: HostRuntime) -> Result<(), Fail> {
     let alloc = rt.alloc();
-    let story = story(alloc)?;
+    let story = the_story(alloc)?;
     let requests = story.requests.bytes.as_slice();
     for (readable, writable, wanted) in &PIPES {
         let mut reader = FaultyReader::new(requests, *readable);
