@@ -129,10 +129,16 @@ const CALLS: Word<'static> = Word {
     help: "How many each client makes",
 };
 
+const CHECKS: Word<'static> = Word {
+    id: "turns",
+    takes: Takes::Number,
+    help: "How often it is checked",
+};
+
 const TURNS: Word<'static> = Word {
     id: "turns",
     takes: Takes::Number,
-    help: "How often; the best turn is printed",
+    help: "Prints the best of so many",
 };
 
 const MAYBE_TURNS: Word<'static> = Word {
@@ -170,7 +176,7 @@ static LOADS: [Load<'static>; 9] = [
     Load {
         name: "check",
         about: "Checks a made history so many times",
-        words: &[CHECKER, CLIENTS, EVENTS, TURNS],
+        words: &[CHECKER, CLIENTS, EVENTS, CHECKS],
     },
     Load {
         name: "threads",

@@ -31,7 +31,7 @@ fn all_stepped(session: &mut Session, work: Work) -> Result<u64, Refusal> {
     Ok(acts)
 }
 
-/// The same calls, which the session runs to their ends.
+/// The same calls, which the session runs to their ends. The acts are not counted.
 fn all_run(session: &mut Session, work: Work) -> Result<u64, Refusal> {
     for number in 0..work.calls {
         session.plain(CLIENT, work.queue(number / 2), call_of(number))?;
@@ -39,13 +39,21 @@ fn all_run(session: &mut Session, work: Work) -> Result<u64, Refusal> {
     Ok(0)
 }
 
+/// How the session makes a call.
+#[derive(Clone, Copy)]
+pub(crate) enum Running {
+    /// Step by step.
+    Steps,
+    /// To its end, at once.
+    Whole,
+}
+
 /// How long calls took, and how many acts they were.
-fn timed<R: Clock>(rt: &R, session: &mut Session, work: Work, by_steps: bool) -> Result<Figures> {
+fn timed<R: Clock>(rt: &R, session: &mut Session, work: Work, running: Running) -> Result<Figures> {
     let begun = Instant::now(rt)?;
-    let acts = if by_steps {
-        all_stepped(session, work)?
-    } else {
-        all_run(session, work)?
+    let acts = match running {
+        Running::Steps => all_stepped(session, work)?,
+        Running::Whole => all_run(session, work)?,
     };
     Ok(Figures {
         nanoseconds: begun.elapsed(rt)?.as_nanos(),
@@ -54,8 +62,12 @@ fn timed<R: Clock>(rt: &R, session: &mut Session, work: Work, by_steps: bool) ->
     })
 }
 
-/// A turn of calls that the client makes step by step, or that the session runs to their ends.
-pub(crate) fn alone<R: Clock + AllocGlobal>(rt: &R, work: Work, by_steps: bool) -> Result<Figures> {
+/// A turn of calls that the client makes so.
+pub(crate) fn alone<R: Clock + AllocGlobal>(
+    rt: &R,
+    work: Work,
+    running: Running,
+) -> Result<Figures> {
     let mut session = session_for(rt.alloc(), work)?;
-    timed(rt, &mut session, work, by_steps)
+    timed(rt, &mut session, work, running)
 }

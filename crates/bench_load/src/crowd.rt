@@ -2,7 +2,7 @@
 //! itself. bench/workers.sh times them.
 
 use crate::asked::count;
-use crate::clients::alone;
+use crate::clients::{Running, alone};
 use crate::threads::shared;
 use crate::work::{Figures, Work, better};
 use anyhow::Result;
@@ -30,8 +30,8 @@ fn turn<R: Threads + Wait + Clock + AllocGlobal + Sync>(
 ) -> Result<Figures> {
     match by {
         By::Threads(threads) => shared(rt, threads, work),
-        By::Steps => alone(rt, work, true),
-        By::Calls => alone(rt, work, false),
+        By::Steps => alone(rt, work, Running::Steps),
+        By::Calls => alone(rt, work, Running::Whole),
     }
 }
 

@@ -61,6 +61,7 @@ struct Story {
     replies: Lines,
 }
 
+/// Those of [`STORY`].
 fn the_story(alloc: Global) -> Result<Story, AllocError> {
     let (mut requests, mut replies) = (Lines::new(alloc), Lines::new(alloc));
     for (request, reply) in &STORY {
@@ -216,6 +217,7 @@ const SOUND: Limits = Limits {
 fn a_byte_at_a_time(rt: HostRuntime) -> Result<(), Fail> {
     let story = the_story(rt.alloc())?;
     assert_eq!(rt; story.requests.bytes.len(), REQUEST_BYTES);
+    assert_eq!(rt; story.replies.bytes.len(), REPLY_BYTES);
     let limits = Limits { each: 1, ..SOUND };
     let wanted = Wanted {
         end: Ok(()),
