@@ -1,7 +1,7 @@
 //! Serving with a journal.
 
 ghost use Rattle.std.specs.Prelude.{IfOk, IfSome};
-ghost use Rattle.server.specs.Sessions.{IsUncalled};
+ghost use Rattle.opening.specs.Sessions.{IsUncalled};
 
 use crate::{Fault, broker_for, fill_places, listener_at, service_of};
 use devices::{CountedReader, CountedWriter};
@@ -9,8 +9,10 @@ use journal_store::{Found, Store};
 use lasting::Policy;
 use log::Log;
 use named::Broker;
+use opening::{reopened, reopened_anew};
 use options::{Journaling as Asked, Listening, Mode, Options, Syncing};
-use server::{Journaling, Service, net_lasting, pipe_lasting, reopened, reopened_anew};
+use server::{Service, net_lasting, pipe_lasting};
+use serving::Journaling;
 use std::io;
 use std::net::Net;
 use std::sync::Wait;

@@ -2,7 +2,7 @@
 #![tactic(auto)]
 
 ghost use Rattle.std.specs.Prelude.{◌≡◌, IfOk};
-ghost use Rattle.server.specs.Sessions.{IsUncalled};
+ghost use Rattle.opening.specs.Sessions.{IsUncalled};
 ghost use Rattle.pqd.specs.declared.Fault.TheVariants.{Refused};
 
 mod image;
@@ -11,8 +11,10 @@ mod keeping;
 use devices::{CountedReader, CountedWriter};
 use log::Log;
 use named::Broker;
+use opening::{opened, renewed};
 use options::{Listening, Mode, Options, command_line};
-use server::{Service, Unserved, net, opened, pipe, renewed};
+use server::{Service, net};
+use serving::{Unserved, pipe};
 use std::fs::File;
 use std::io;
 use std::net::{Net, SocketAddr, TcpListener};

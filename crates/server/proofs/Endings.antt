@@ -9,7 +9,7 @@ use Rattle.session.specs.Promises.{KeepsNumbers}
 use Rattle.session.specs.Sessions.{Sessioned}
 use Rattle.workers.specs.Seats.{AreSeatsRecorded}
 use Rattle.workers.specs.declared.entry.Entry.{Entry}
-use Rattle.server.specs.Image.{IsImageAfter, IsImageOf}
+use Rattle.serving.specs.Image.{IsImageAfter, IsImageOf}
 
 -- its image, where there was memory for that
 pub image_after : {S : Type 0} (list : S → List Entry) (seats : List S) (first last : Sessioned) (b : Brokered)

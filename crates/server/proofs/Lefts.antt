@@ -11,8 +11,8 @@ use Rattle.session.specs.Promises.{KeepsNumbers}
 use Rattle.session.specs.Sessions.{Sessioned}
 use Rattle.workers.specs.Seats.{AreSeatsRecorded}
 use Rattle.workers.specs.declared.entry.Entry.{Entry}
-use Rattle.server.specs.Image.{IsImageAfter, IsImageOf}
-use Rattle.server.specs.Journaled.{IsLeftAfter}
+use Rattle.serving.specs.Image.{IsImageAfter, IsImageOf}
+use Rattle.serving.specs.Journaled.{IsLeftAfter}
 
 -- what an answer that is no refusal says
 pub on_ok : {T E : Type 0} (P : Type 0) (answer : Result T E) → is_err answer ≡ false → OnOk answer P → P

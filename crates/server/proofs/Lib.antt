@@ -1,9 +1,3 @@
 mod Endings
-mod Serving
-mod Refused
-mod StepsKeep
-mod Beginnings
-mod Anew
-mod Recoveries
 mod Restarts
 mod Lefts

@@ -31,8 +31,8 @@ use Rattle.lasting.specs.Lasting.{HasMoments, ReadsLater, ReadsMoment}
 use Rattle.workers.specs.Marks.{RanNumbered}
 use Rattle.desk.specs.Telling.{IsReplied}
 use Rattle.desk.specs.declared.calls.Asked.{Asked}
-use Rattle.server.specs.Image.{IsOpenedOver}
-use Rattle.server.specs.Opening.{IsOpened, IsQueueOpened}
+use Rattle.serving.specs.Image.{IsOpenedOver}
+use Rattle.opening.specs.Opening.{IsOpened, IsQueueOpened}
 use Rattle.server.specs.Restarting.{words_read, AreSettledBy, GoesOnFrom, IsReopenedFrom, IsRestartedFrom, LivesOn}
 use Rattle.server.specs.Restarting.LivesOn.{restarted, within}
 

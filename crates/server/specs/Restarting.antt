@@ -16,8 +16,8 @@ use Rattle.lasting.specs.Lasting.{HasMoments, ReadsLater, ReadsMoment}
 use Rattle.workers.specs.Marks.{RanNumbered}
 use Rattle.desk.specs.Telling.{IsReplied}
 use Rattle.desk.specs.declared.calls.Asked.{Asked}
-use Rattle.server.specs.Image.{IsOpenedOver}
-use Rattle.server.specs.Opening.{IsOpened, IsQueueOpened}
+use Rattle.serving.specs.Image.{IsOpenedOver}
+use Rattle.opening.specs.Opening.{IsOpened, IsQueueOpened}
 
 -- each number of a client of a log queue that is settled in the session is so, with its reply, by what the broker tells
 -- the client

@@ -2,20 +2,18 @@
 
 ghost use Rattle.std.specs.Prelude.{◌<◌};
 
-use crate::json_lines::JsonLines;
-use crate::lasting_desk::LastingDesk;
 use crate::stopping::Stopping;
 use crossbeam_channel::Receiver;
 use desk::{BrokerDesk, Seating};
-use devices::{CountedReader, CountedWriter, Failed, MAX_FAILURES};
+use devices::{CountedReader, CountedWriter, MAX_FAILURES};
 use engine::{Desk, serve};
 use journal_file::{Appender, Storage};
 use lasting::SharedJournal;
 use log::{Log, warn};
+use serving::{JsonLines, LastingDesk, StoppingDesk};
 use std::alloc::Global;
 use std::net::TcpStream;
 use std::sync::Wait;
-use wire::{Answer, Request};
 use words::Refusal;
 use workers::{Naming, Shared};
 
@@ -36,36 +34,6 @@ pub(crate) struct Serving<'a, J: Naming, S: Desks<J>> {
     pub(crate) connections: &'a Receiver<TcpStream>,
 }
 
-/// The desk of a connection, which says where it has accepted a stop.
-#[derive(Drop)]
-struct StoppingDesk<'a, D: Desk> {
-    desk: D,
-    stopping: &'a Stopping,
-}
-
-impl<D: Desk> Desk for StoppingDesk<'_, D> {
-    ghost served = { λ desk. D.served desk.desk };
-
-    ghost settled = { λ desk. D.settled desk.desk };
-
-    ghost failures = { λ desk. D.failures desk.desk };
-
-    fn answer<R: Wait>(&mut self, rt: &R, request: Request) -> Answer {
-        let answer = self.desk.answer(rt, request);
-        if matches!(answer, Answer::Stopping) {
-            // It is said before the reply goes out: a client that has read it is not served on another connection.
-            self.stopping.say();
-        }
-        answer
-    }
-
-    fn settle<R: Wait>(&mut self, rt: &R) -> Result<(), Failed> {
-        self.desk.settle(rt)
-    }
-
-    ghost begins = { λ desk. D.begins desk.desk };
-}
-
 /// Serves a connection at a desk, to its end.
 fn serve_at<D: Desk + Drop, R: Wait + Log>(
     rt: &R,
@@ -78,7 +46,7 @@ fn serve_at<D: Desk + Drop, R: Wait + Log>(
 {
     let mut reader = CountedReader::new(connection);
     let mut writer = CountedWriter::new(connection);
-    let mut desk = StoppingDesk { desk, stopping };
+    let mut desk = StoppingDesk::new(desk, stopping.said());
     let served = serve::<R, JsonLines, _, _, _>(rt, alloc, &mut reader, &mut writer, &mut desk);
     if let Err(failure) = served {
         warn!(rt; "a connection ended: {failure}");

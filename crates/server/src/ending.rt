@@ -2,15 +2,16 @@
 
 ghost use Rattle.std.specs.Prelude.{◌≡◌, ◌⊎◌, IfErr, IfOk};
 ghost use Rattle.session.specs.Sessions.{IsUncalled};
-ghost use Rattle.workers.specs.Opening.{IsInUse};
-ghost use Rattle.server.specs.Image.{IsBusyOrNoMemory, IsImageAfter, IsOpenedOver};
+ghost use Rattle.workers.specs.Opening.{IsInUse, IsNameOf};
+ghost use Rattle.workers.specs.Seats.{AreAllInOrder};
+ghost use Rattle.serving.specs.Image.{IsBusyOrNoMemory, IsImageAfter, IsOpenedOver};
 
 use desk::Seating;
 use named::Broker;
 use session::Session;
 use std::alloc::Global;
 use words::Refusal;
-use workers::{Naming, Opened, Shared};
+use workers::{Naming, Opened, Operator, Seat, Shared};
 
 /// A session over the broker, for connections to share. It is refused where a call or a creation is under way (Busy),
 /// and for want of memory (NoMemory).
@@ -22,6 +23,43 @@ pub(crate) fn shareable(alloc: Global, broker: Broker) -> Result<Opened, Refusal
     match Opened::new(alloc, Session::open(broker)) {
         Ok(opened) => Ok(opened),
         Err(not) => Err(not.refusal),
+    }
+}
+
+/// The seats of a shared broker, for connections, which begin queues in fresh records if that is said. It is refused for
+/// want of memory (NoMemory).
+pub(crate) fn seated<J: Naming>(
+    alloc: Global,
+    seats: Vec<Seat<J>>,
+    operator: Operator<J>,
+    renew: bool,
+) -> Result<Seating<J>, Refusal>
+    requires { AreAllInOrder (λ seat. seat.client) J.clients seats.items }
+    ensures { IfErr result (λ e. e ≡ Refusal.NoMemory) }
+{
+    let seating = Seating::new(alloc, seats, operator)?;
+    if renew {
+        return Ok(seating.renewing());
+    }
+    Ok(seating)
+}
+
+/// A broker that connections share, and its seats, once it has its name. It is refused for want of memory (NoMemory).
+pub(crate) fn shared_seats<J: Naming>(
+    alloc: Global,
+    opened: Opened,
+    renew: bool,
+) -> Result<(Shared<J>, Seating<J>), Refusal>
+    requires { IsNameOf J.roll J.clients J.first opened }
+    ensures { IfErr result (λ e. e ≡ Refusal.NoMemory) }
+{
+    let (shared, seats, operator) = match opened.named::<J>(alloc) {
+        Ok(named) => named,
+        Err(not) => return Err(not.refusal),
+    };
+    match seated(alloc, seats, operator, renew) {
+        Ok(seats) => Ok((shared, seats)),
+        Err(refusal) => Err(refusal),
     }
 }
 

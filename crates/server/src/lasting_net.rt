@@ -4,17 +4,18 @@ ghost use Rattle.std.specs.Prelude.{◌≡◌, IfOk};
 ghost use Rattle.session.specs.Sessions.{IsUncalled};
 ghost use Rattle.workers.specs.Moments.{IsFirstMoment};
 ghost use Rattle.workers.specs.Opening.{IsNameOf};
-ghost use Rattle.server.specs.Journaled.{IsLeftAfter, IsLeftBy};
+ghost use Rattle.serving.specs.Journaled.{IsLeftAfter, IsLeftBy};
 
 use crate::connections::{Desks, Sharing};
-use crate::journals::{Journaling, Left, Noted, Unserved, begin_noting, journal_left};
-use crate::listening::{Service, seated, work};
+use crate::lasting_broker::LastingBroker;
+use crate::listening::{Service, work};
 use crate::stopping::Stopping;
 use desk::Seating;
 use journal_file::{Appender, Storage};
 use lasting::{Policy, Settler, SharedJournal};
 use log::Log;
 use named::Broker;
+use serving::{Journaling, Left, Noted, Unserved, begin_noting};
 use std::alloc::{AllocError, Global};
 use std::marker::Brand;
 use std::net::{Net, TcpListener};
@@ -114,6 +115,26 @@ fn work_beside<
     worked
 }
 
+/// Serves connections to the end, settles and keeps what no reply told of, and answers who settles.
+fn serve_to_end<
+    J: Naming + Send + Sync,
+    F: Appender + Drop + Send,
+    S: Storage<F> + Sync,
+    R: Threads + Wait + Net + Clock + Log + Sync,
+>(
+    rt: &R,
+    alloc: Global,
+    seats: &Seating<J>,
+    journal: SharedJournal<'_, J, F, S>,
+    workers: u32,
+    listener: &TcpListener,
+) -> Result<Settler<J, F>, AllocError> {
+    work_beside(rt, alloc, seats, &journal, workers, listener)?;
+    // Where that fails for good, nothing is left.
+    let _ = journal.settle_and_keep(rt);
+    Ok(journal.into_settler())
+}
+
 /// Serves, once the broker has its name.
 fn served<
     J: Naming + Send + Sync,
@@ -133,23 +154,22 @@ fn served<
     requires moment { IsFirstMoment J.first }
     ensures { IfOk result (λ left. IsLeftAfter J.first left.image.items left.journal) }
 {
-    let Noted { noting, words } = noted;
-    let (shared, seats, operator, handed) = match noting.named::<J>(alloc) {
-        Ok(named) => named,
-        Err(not) => return Err(Unserved::Refused(not.refusal)),
-    };
-    let seats = seated(alloc, seats, operator, service)?;
-    let Journaling { storage, policy } = journaling;
-    let settler = Settler::begin(alloc, handed, words, storage, policy)?;
-    let journal = SharedJournal::new(alloc, &shared, storage, settler);
+    let LastingBroker {
+        shared,
+        seats,
+        settler,
+    } = LastingBroker::<J, F>::begin(alloc, noted, service.renew, &journaling)?;
+    let journal = SharedJournal::new(alloc, &shared, journaling.storage, settler);
     let workers = service.workers.max(1);
-    if work_beside(rt, alloc, &seats, &journal, workers, listener).is_err() {
-        return Err(Unserved::Refused(Refusal::NoMemory));
+    match serve_to_end(rt, alloc, &seats, journal, workers, listener) {
+        Ok(settler) => LastingBroker {
+            shared,
+            seats,
+            settler,
+        }
+        .end(alloc),
+        Err(_) => Err(Unserved::Refused(Refusal::NoMemory)),
     }
-    // What no reply told of is settled and kept too. Where that fails for good, nothing is left.
-    let _ = journal.settle_and_keep(rt);
-    let settler = journal.into_settler();
-    journal_left(alloc, shared, seats, settler)
 }
 
 /// Serves connections as [`crate::net`] does, with a journal of all that is done, which begins on a fresh device of the

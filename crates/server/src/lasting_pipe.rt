@@ -4,17 +4,16 @@ ghost use Rattle.std.specs.Prelude.{◌≡◌, ◌<◌, IfOk};
 ghost use Rattle.session.specs.Sessions.{IsUncalled};
 ghost use Rattle.workers.specs.Moments.{IsFirstMoment};
 ghost use Rattle.workers.specs.Opening.{IsNameOf};
-ghost use Rattle.server.specs.Journaled.{IsLeftAfter, IsLeftBy};
+ghost use Rattle.serving.specs.Journaled.{IsLeftAfter, IsLeftBy};
 
-use crate::journals::{Journaling, Left, Noted, Unserved, begin_noting, journal_left};
-use crate::json_lines::JsonLines;
-use crate::lasting_desk::LastingDesk;
+use crate::lasting_broker::LastingBroker;
 use desk::Seating;
 use devices::{MAX_FAILURES, Reader, Writer};
 use engine::serve;
 use journal_file::{Appender, Storage};
 use lasting::{Policy, Settler, SharedJournal};
 use named::Broker;
+use serving::{Journaling, JsonLines, LastingDesk, Left, Noted, Unserved, begin_noting};
 use std::alloc::Global;
 use std::marker::Brand;
 use std::sync::Wait;
@@ -78,6 +77,31 @@ fn serve_beside<
     served
 }
 
+/// Serves to the end, settles and keeps what no reply told of, and answers who settles, and whether all was served.
+fn serve_to_end<
+    J: Naming + Send + Sync,
+    F: Appender + Drop + Send,
+    S: Storage<F> + Sync,
+    T: Threads + Wait + Clock + Sync,
+    R: Reader,
+    W: Writer,
+>(
+    rt: &T,
+    alloc: Global,
+    seats: &Seating<J>,
+    journal: SharedJournal<'_, J, F, S>,
+    reader: &mut R,
+    writer: &mut W,
+) -> (Settler<J, F>, Result<(), Unserved>)
+    requires reader { R.failures reader.old < MAX_FAILURES }
+    requires writer { W.failures writer.old < MAX_FAILURES }
+{
+    let served = serve_beside(rt, alloc, seats, &journal, reader, writer);
+    // Where that fails for good, nothing is left.
+    let _ = journal.settle_and_keep(rt);
+    (journal.into_settler(), served)
+}
+
 /// Serves, once the broker has its name.
 fn served<
     J: Naming + Send + Sync,
@@ -101,25 +125,26 @@ fn served<
     requires writer { W.failures writer.old < MAX_FAILURES }
     ensures { IfOk result (λ left. IsLeftAfter J.first left.image.items left.journal) }
 {
-    let Noted { noting, words } = noted;
-    let (shared, seats, operator, handed) = match noting.named::<J>(alloc) {
-        Ok(named) => named,
-        Err(not) => return Err(Unserved::Refused(not.refusal)),
+    let LastingBroker {
+        shared,
+        seats,
+        settler,
+    } = LastingBroker::<J, F>::begin(alloc, noted, false, &journaling)?;
+    let journal = SharedJournal::new(alloc, &shared, journaling.storage, settler);
+    let (settler, served) = serve_to_end(rt, alloc, &seats, journal, reader, writer);
+    let broker = LastingBroker {
+        shared,
+        seats,
+        settler,
     };
-    let seats = Seating::new(alloc, seats, operator)?;
-    let Journaling { storage, policy } = journaling;
-    let settler = Settler::begin(alloc, handed, words, storage, policy)?;
-    let journal = SharedJournal::new(alloc, &shared, storage, settler);
-    let served = serve_beside(rt, alloc, &seats, &journal, reader, writer);
-    // What no reply told of is settled and kept too. Where that fails for good, nothing is left.
-    let _ = journal.settle_and_keep(rt);
-    let settler = journal.into_settler();
-    let left = journal_left(alloc, shared, seats, settler)?;
-    served?;
-    Ok(left)
+    let left = broker.end(alloc)?;
+    match served {
+        Ok(()) => Ok(left),
+        Err(unserved) => Err(unserved),
+    }
 }
 
-/// Serves a reader and a writer as [`crate::pipe`] does, with a journal of all that is done, which begins on a fresh
+/// Serves a reader and a writer as [`serving::pipe`] does, with a journal of all that is done, which begins on a fresh
 /// device of the storage before anything is read. No reply is written before what it tells of is appended, and kept
 /// where the policy is to keep always. Where the device fails, the journal goes on on a fresh one. Where that fails too,
 /// or memory for it is refused, it ends without the replies and answers NotKept. It is refused as `pipe` is, and where

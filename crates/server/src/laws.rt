@@ -7,12 +7,12 @@ ghost use Rattle.named.specs.Brokers.{Brokered};
 ghost use Rattle.session.specs.Keeping.{SessionGoesOn};
 ghost use Rattle.session.specs.Sessions.{Sessioned};
 ghost use Rattle.workers.specs.Moments.{IsMomentOf};
-ghost use Rattle.server.specs.Opening.{IsOpened};
+ghost use Rattle.opening.specs.Opening.{IsOpened};
 ghost use Rattle.server.specs.Restarting.{AreRepliesSettledBy, AreSettledBy, GoesOnFrom, IsReopenedFrom, IsReopenedLater, IsRestartedFrom, LivesOn};
 
 use workers::marked_answers_are_told;
 
-/// The broker that is opened on the kept words of a moment, as [`crate::reopened`] is on what a stop leaves of a
+/// The broker that is opened on the kept words of a moment, as [`opening::reopened`] is on what a stop leaves of a
 /// journal, goes on from there: it has each queue, with what it held, and each number that was settled at that moment
 /// is settled by what its client is told.
 pub fn restarts_go_on()

@@ -3,11 +3,10 @@
 ghost use Rattle.std.specs.Prelude.{◌≡◌, IfErr, IfOk};
 ghost use Rattle.session.specs.Sessions.{IsUncalled};
 ghost use Rattle.workers.specs.Opening.{IsNameOf};
-ghost use Rattle.workers.specs.Seats.{AreAllInOrder};
-ghost use Rattle.server.specs.Image.{IsBusyOrNoMemory, IsImageAfter, IsImageLeftBy};
+ghost use Rattle.serving.specs.Image.{IsBusyOrNoMemory, IsImageAfter, IsImageLeftBy};
 
 use crate::connections::{Desks, InMemory, Serving, Sharing, serve_connections};
-use crate::ending::{image_left, shareable};
+use crate::ending::{image_left, shareable, shared_seats};
 use crate::stopping::Stopping;
 use crossbeam_channel::{Sender, bounded};
 use desk::Seating;
@@ -20,7 +19,7 @@ use std::sync::Wait;
 use std::thread::{Threads, join, map_indices, sleep};
 use std::time::{Clock, Duration};
 use words::Refusal;
-use workers::{Naming, Opened, Operator, Seat};
+use workers::{Naming, Opened, Shared};
 
 /// How long the thread that takes connections rests after one that it could not take. Where there are no descriptors
 /// left, each fails at once.
@@ -152,21 +151,22 @@ pub(crate) fn work<
     worked
 }
 
-/// The seats of a shared broker, for connections that are served so. It is refused for want of memory (NoMemory).
-pub(crate) fn seated<J: Naming>(
+/// Serves connections at these seats, to the end.
+fn serve_seats<J: Naming + Send + Sync, R: Threads + Wait + Net + Clock + Log + Sync>(
+    rt: &R,
     alloc: Global,
-    seats: Vec<Seat<J>>,
-    operator: Operator<J>,
-    service: Service,
-) -> Result<Seating<J>, Refusal>
-    requires { AreAllInOrder (λ seat. seat.client) J.clients seats.items }
-    ensures { IfErr result (λ e. e ≡ Refusal.NoMemory) }
-{
-    let seating = Seating::new(alloc, seats, operator)?;
-    if service.renew {
-        return Ok(seating.renewing());
-    }
-    Ok(seating)
+    shared: &Shared<J>,
+    seats: &Seating<J>,
+    workers: u32,
+    listener: &TcpListener,
+) -> Result<(), AllocError> {
+    let stopping = Stopping::new(alloc)?;
+    let sharing = Sharing {
+        shared,
+        seats,
+        stopping: &stopping,
+    };
+    work(rt, alloc, sharing, &InMemory, workers, listener)
 }
 
 /// Serves, once the broker has its name.
@@ -181,24 +181,11 @@ fn served<J: Naming + Send + Sync, R: Threads + Wait + Net + Clock + Log + Sync>
     ensures image { IfOk result (λ bytes. IsImageAfter J.first bytes.items) }
     ensures errors { IfErr result IsBusyOrNoMemory }
 {
-    let (shared, seats, operator) = match opened.named::<J>(alloc) {
-        Ok(named) => named,
-        Err(not) => return Err(not.refusal),
-    };
-    let seats = seated(alloc, seats, operator, service)?;
-    let Ok(stopping) = Stopping::new(alloc) else {
-        return Err(Refusal::NoMemory);
-    };
-    let sharing = Sharing {
-        shared: &shared,
-        seats: &seats,
-        stopping: &stopping,
-    };
-    let workers = service.workers.max(1);
-    if work(rt, alloc, sharing, &InMemory, workers, listener).is_err() {
-        return Err(Refusal::NoMemory);
+    let (shared, seats) = shared_seats::<J>(alloc, opened, service.renew)?;
+    match serve_seats(rt, alloc, &shared, &seats, service.workers.max(1), listener) {
+        Ok(()) => image_left(alloc, shared, seats),
+        Err(_) => Err(Refusal::NoMemory),
     }
-    image_left(alloc, shared, seats)
 }
 
 /// Serves each connection of a listener by a worker thread, until a stop is accepted and all connections have ended; it

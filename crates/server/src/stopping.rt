@@ -39,6 +39,11 @@ impl Stopping {
         self.said.load(Ordering::SeqCst)
     }
 
+    /// Where it is said that no more are.
+    pub(crate) fn said(&self) -> &AtomicBool {
+        &self.said
+    }
+
     /// All connections have ended.
     pub(crate) fn end(&self) {
         self.ended.store(true, Ordering::SeqCst);

@@ -10,7 +10,7 @@ use desk::{BrokerDesk, Seating};
 use devices::{CountedWriter, FaultyReader};
 use directory::Name;
 use engine::{Failure, serve};
-use server::JsonLines;
+use serving::JsonLines;
 use session::Session;
 use std::fmt::Write;
 use std::marker::Brand;

@@ -7,8 +7,9 @@ use crate::again::{MOST_TRIES, made, say_again};
 use crate::written::{Written, text_of};
 use devices::{CountedWriter, FaultyReader, Unread, read_all};
 use named::Broker;
+use opening::opened;
 use requests::request;
-use server::{opened, pipe};
+use serving::pipe;
 use std::alloc::Global;
 use std::sync::Wait;
 use wire::Request;
@@ -75,7 +76,7 @@ pub(crate) fn opened_at_last<R: Print + AllocGlobal>(
     for _ in 0..MOST_TRIES {
         match opened(rt.alloc(), 2, 6, image) {
             Ok(broker) => return Ok(broker),
-            Err(Refusal::NoMemory) => say_again(rt, "server::opened", true),
+            Err(Refusal::NoMemory) => say_again(rt, "opening::opened", true),
             Err(refusal) => return Err(refusal),
         }
     }
@@ -101,8 +102,8 @@ fn piped<R: Wait + Print + AllocGlobal>(
                 let _ = print!(rt; "{}", text_of(replies));
                 return Ok(left);
             }
-            Ok(_) => say_again(rt, "a request of server::pipe", true),
-            Err(Refusal::NoMemory) => say_again(rt, "server::pipe", true),
+            Ok(_) => say_again(rt, "a request of serving::pipe", true),
+            Err(Refusal::NoMemory) => say_again(rt, "serving::pipe", true),
             Err(refusal) => return Err(refusal),
         }
     }

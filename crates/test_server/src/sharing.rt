@@ -6,7 +6,7 @@ ghost use Rattle.workers.specs.Opening.{IsNameOf};
 use desk::{BrokerDesk, Seating};
 use directory::Name;
 use engine::Desk;
-use server::opened;
+use opening::opened;
 use session::Session;
 use std::alloc::Global;
 use std::marker::Brand;

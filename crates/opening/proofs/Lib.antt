@@ -1,0 +1,5 @@
+mod Refused
+mod StepsKeep
+mod Beginnings
+mod Anew
+mod Recoveries

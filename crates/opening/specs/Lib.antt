@@ -1,0 +1,2 @@
+pub use Rattle.session.specs.Sessions
+pub mod Opening

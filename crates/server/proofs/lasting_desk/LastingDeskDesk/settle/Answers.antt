@@ -1,6 +1,0 @@
-use Rattle.std.proofs.Common.{ap}
-use Rattle.chronicle.specs.Chronicled.{entries}
-use Rattle.server.proofs.lasting_desk.LastingDeskDesk.settle.Goals as goal
-
-pub returns-in-Err-clause-served : goal.returns-in-Err-clause-served
-returns-in-Err-clause-served g c = ap entries c.mark-marked.ensures.served

@@ -1,4 +1,0 @@
-use Rattle.server.proofs.piping.pipe.Given as goal
-
-abbrev pub ghosts-served : goal.ghosts-served
-ghosts-served g a = record { first = a.session }
