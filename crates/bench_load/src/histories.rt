@@ -1,8 +1,9 @@
 //! A made history, checked so many times.
 
 use anyhow::Result;
+use checker::check;
 use events::copied;
-use history::{Entry, Event, Events, History, Order, Sequence, check, check_plainly};
+use history::{Entry, Event, Events, History, Order, Sequence, check_plainly};
 use std::alloc::{AllocError, Global};
 use test_support::item;
 use words::{Call, Client, Reply, Row, Told};

@@ -9,7 +9,7 @@ ghost use Rattle.playing.specs.Transcript.{told_at};
 use crate::evictions::{Evictions, evict_words};
 use crate::spare::Spare;
 use arena::Layout;
-use history::check_content;
+use checker::check_content;
 use interleave::{Act, World};
 use playing::{attempt_all, most_to_ready, repeat};
 use std::alloc::Global;

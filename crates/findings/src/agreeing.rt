@@ -5,8 +5,8 @@ ghost use Rattle.events.specs.Orders.{IsNew};
 ghost use Rattle.findings.specs.Agreeing.{AgreesAt, ExplainsKnown, IsAgreed, IsRight, IsTableOf};
 ghost use Rattle.findings.specs.Findings.{Agrees};
 
+use checker::check;
 use events::{Entry, History, Order, is_same_reply};
-use history::check;
 use std::alloc::{AllocError, Global};
 use words::{Outcome, Refusal, Reply};
 

@@ -30,7 +30,7 @@ pub(crate) fn in_order(entries: &[Entry], p: usize) -> bool
 }
 
 /// Whether each entry names a call.
-pub(crate) fn names_calls(events: &Events, entries: &[Entry]) -> bool
+pub fn names_calls(events: &Events, entries: &[Entry]) -> bool
     ensures { IsTrue result ↔ All (λ entry. IsSome (call_at events.now.items entry.place)) entries.now }
 {
     entries

@@ -142,7 +142,7 @@ fn is_numbered(event: &Event) -> bool
 }
 
 /// Whether some Call has the number 0.
-pub(crate) fn is_durable(events: &Events) -> bool
+pub fn is_durable(events: &Events) -> bool
     ensures { IsTrue result ↔ IsDurable events.now.items }
 {
     for p in 0..events.len() {

@@ -2,6 +2,6 @@
 #![tactic(auto)]
 
 #[cfg(test)]
-mod checker;
-#[cfg(test)]
 mod rows;
+#[cfg(test)]
+mod written;

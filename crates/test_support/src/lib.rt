@@ -14,8 +14,9 @@ pub mod sessions;
 pub mod steps;
 
 use arena::{SLOTS, SlotId};
+use checker::check_content;
 pub use draws::below;
-use history::{Event, Events, check_content};
+use history::{Event, Events};
 pub use items::{Said, Wish, are_items, item, number_of};
 use named::Broker;
 use std::alloc::{AllocError, Global};

@@ -1,6 +1,6 @@
 use Rattle.std.proofs.Common.{◌<◌, ◌≡◌, ℕ, take}
 use Rattle.events.specs.Replay.{IsRightAt, queue_after}
-use Rattle.history.proofs.replaying.replay_from.Given as goal
+use Rattle.checker.proofs.replaying.replay_from.Given as goal
 
 abbrev pub invariant-loop-i : goal.invariant-loop-i
 invariant-loop-i l = record {

@@ -1,7 +1,8 @@
 //! Histories written out, with the orders that explain them and some that do not: what the definition means.
 
 use crate::rows::{Case, HISTORIES, Left, Placed, REPLAYED, REPLAYS, Seen, Telling};
-use history::{Entry, Event, Events, History, Order, Sequence, check, check_plainly, replay};
+use checker::{check, replay};
+use history::{Entry, Event, Events, History, Order, Sequence, check_plainly};
 use std::alloc::{AllocError, Global};
 use std::test::Fail;
 use test_support::{are_items, item};

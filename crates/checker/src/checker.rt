@@ -1,4 +1,4 @@
-//! The checker.
+//! Whether an order explains a history.
 
 ghost use Rattle.std.specs.Prelude.{◌<◌, ◌≡◌, ◌↔◌, length, IfErr, IfOk, IsTrue, All, EachIndex};
 ghost use Rattle.events.specs.Explains.{Explains, IsExplained, KeepsPrecedence};
@@ -7,16 +7,12 @@ ghost use Rattle.events.specs.Orders.{IsNew};
 ghost use Rattle.history.specs.Replaying.{IsExplainedLeaving};
 ghost use Rattle.history.specs.Sweeps.{Tells};
 
-use crate::answering::all_answered;
-use crate::arising::arises;
-use crate::fronts::replay_is_right;
-use crate::hearing::all_told;
-use crate::naming::names_once;
-use crate::ordering::names_calls;
-use crate::places::is_durable;
-use crate::preceding::precedence_is_kept;
 use crate::replaying::replay;
 use events::{Entry, Events, History, Order, are_same_values};
+use history::{
+    all_answered, all_told, arises, is_durable, names_calls, names_once, precedence_is_kept,
+    replay_is_right,
+};
 use std::alloc::Global;
 use words::{Kind, Refusal, Reports, Value};
 

@@ -1,4 +1,4 @@
-use Rattle.history.proofs.checker.explains.Goals as goal
+use Rattle.checker.proofs.checker.explains.Goals as goal
 
 pub returns : goal.returns
 returns c = (

@@ -3,7 +3,7 @@ use Rattle.words.specs.declared.told.Told.{Told}
 use Rattle.std.proofs.lemmas.Option.{slice_get_within}
 use Rattle.events.specs.History.{IsDurable, ReadyAt}
 use Rattle.events.proofs.Facts.{told_if_interrupted}
-use Rattle.history.proofs.checker.tells.Goals as goal
+use Rattle.checker.proofs.checker.tells.Goals as goal
 
 pub returns-then-is_durable : goal.returns-then-is_durable
 returns-then-is_durable c =
