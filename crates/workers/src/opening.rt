@@ -1,7 +1,7 @@
 //! How a session comes to be shared.
 
-ghost use Rattle.std.specs.Prelude.{◌≡◌, ◌∷◌, [], false, true, IfErr, IfOk, OnOk};
-ghost use Rattle.roll.specs.Rule.{IsKeeper};
+ghost use Rattle.std.specs.Prelude.{◌≡◌, ◌∷◌, [], false, length, true, IfErr, IfOk, OnOk};
+ghost use Rattle.roll.specs.Rule.{IsKeeper, rows_of};
 ghost use Rattle.workers.specs.Noting.{IsBooked};
 ghost use Rattle.workers.specs.Opening.{IsInUse, IsNameOf, IsNotInUse, IsWhyNotOpened, HasNoCall};
 ghost use Rattle.workers.specs.Seats.{AreAllInOrder, AreEmpty};
@@ -104,6 +104,31 @@ fn registered(alloc: Global) -> Result<(Roll<Deed>, Register), AllocError>
     Ok((roll, Register::new(keeper, row)))
 }
 
+/// A seat for each client, in client order, which remembers no call yet.
+fn given_seats<J: Naming>(
+    alloc: Global,
+    roll: &Roll<Entry>,
+    keeper: &mut Token<Entry>,
+    clients: u32,
+) -> Result<Vec<Seat<J>>, AllocError>
+    requires lists { roll.now ≡ J.roll.lists }
+    requires keeper { IsKeeper roll.now [] keeper.old }
+    ensures keeper { OnOk result (IsKeeper roll.now (rows_of keeper.new) keeper.new) }
+    ensures rows { OnOk result (length (rows_of keeper.new) ≡ clients) }
+    ensures unwritten { OnOk result (AreEmpty (λ row. row) (rows_of keeper.new)) }
+    ensures order { IfOk result (λ seats. AreAllInOrder (λ seat. seat.client) clients seats.items) }
+    ensures empty { IfOk result (λ seats. AreEmpty (λ seat. seat.list.items) seats.items) }
+{
+    let mut seats = Vec::new(alloc);
+    seats.reserve(clients as usize)?;
+    for client in 0..clients {
+        let list = Vec::new(alloc);
+        let token = roll.enroll(keeper, &list);
+        seats.push_reserved(seat_of(Client(client as u8), list, token));
+    }
+    Ok(seats)
+}
+
 impl Opened {
     /// Opens a session to threads, before it is named. It is refused, in this order, where a client has a call under
     /// way or a creation is (Busy), and for want of memory (NoMemory).
@@ -199,19 +224,12 @@ impl Opened {
             mut register,
             marks,
         } = self;
-        let clients = session.broker().clients();
-        let mut seats = Vec::new(alloc);
-        if seats.reserve(clients as usize).is_err() {
+        let Ok(seats) = given_seats(alloc, &roll, &mut keeper, session.broker().clients()) else {
             return Err(NotOpened {
                 refusal: Refusal::NoMemory,
                 session,
             });
-        }
-        for client in 0..clients {
-            let list = Vec::new(alloc);
-            let token = roll.enroll(&mut keeper, &list);
-            seats.push_reserved(seat_of(Client(client as u8), list, token));
-        }
+        };
         let operator = register.appoint(&deeds);
         let mut marks = Marks::new(marks);
         let first = marks.mark(&session);

@@ -2,7 +2,7 @@ use Rattle.std.proofs.Common.{rules, arith, sym, ap, ◌∙◌, [], ◌∷◌, �
 use Rattle.roll.specs.Rule.{keeper, rows_of}
 use Rattle.workers.specs.declared.entry.Entry.{Entry}
 use Rattle.workers.proofs.seats.GivenSeats.{empty_pushed, order_pushed}
-use Rattle.workers.proofs.opening.Opened.shared.Goals as goal
+use Rattle.workers.proofs.opening.given_seats.Goals as goal
 
 pub loop-client-preserved : goal.loop-client-preserved
 loop-client-preserved g c =

@@ -1,7 +1,7 @@
 use Rattle.std.proofs.Common.{◌≡◌, ◌≤◌, length, vec_capacity}
 use Rattle.roll.specs.Rule.{IsKeeper, rows_of}
 use Rattle.workers.specs.Seats.{AreAllInOrder, AreEmpty}
-use Rattle.workers.proofs.opening.Opened.shared.Given as goal
+use Rattle.workers.proofs.opening.given_seats.Given as goal
 
 abbrev pub invariant-loop-client : goal.invariant-loop-client
 invariant-loop-client g l =
