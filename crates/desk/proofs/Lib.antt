@@ -1,4 +1,3 @@
-mod Placing
 mod Settling
 mod Keeping
 mod Telling

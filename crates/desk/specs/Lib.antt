@@ -1,4 +1,3 @@
-pub mod Seating
 pub mod Calls
 pub mod Requests
 pub mod Serving

@@ -9,8 +9,8 @@ ghost use Rattle.wire.specs.declared.answer.Answer.{Answer as AnyAnswer};
 
 use crate::calls::nameless;
 use crate::counter::Counter;
-use crate::seating::Seating;
 use directory::Name;
+use seating::Seating;
 use std::sync::Wait;
 use wire::{Answer, Request};
 use words::{Kind, Refusal, Told};

@@ -4,7 +4,7 @@ ghost use Rattle.std.specs.Prelude.{◌≡◌, IfSome, IsSome, Some};
 ghost use Rattle.desk.specs.Telling.{GoesOnMarked};
 ghost use Rattle.workers.specs.Marks.{IsMarkedBy};
 
-use crate::seating::Seating;
+use seating::Seating;
 use std::sync::Wait;
 use workers::{Marked, Naming, Seat, Shared};
 

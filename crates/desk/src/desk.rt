@@ -6,11 +6,11 @@ ghost use Rattle.desk.specs.Requests.{is_stop_answer};
 ghost use Rattle.desk.specs.Serving.{has_stopped, AreAnswered};
 
 use crate::counter::Counter;
-use crate::seating::Seating;
 use chronicle::Chronicle;
 use devices::Failed;
 use engine::Desk;
 use events::copied;
+use seating::Seating;
 use std::alloc::{AllocError, Global};
 use std::sync::Wait;
 use wire::{Answer, Request};

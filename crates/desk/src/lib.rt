@@ -7,10 +7,8 @@ mod counter;
 mod desk;
 mod marking;
 mod renewing;
-mod seating;
 mod worth;
 
 pub use calls::{Asked, answer_at_seat};
 pub use desk::BrokerDesk;
 pub use marking::MarkingDesk;
-pub use seating::Seating;

@@ -6,9 +6,9 @@ ghost use Rattle.desk.specs.Serving.{AreAnswered};
 ghost use Rattle.desk.specs.Telling.{AreReplied};
 
 use crate::counter::Counter;
-use crate::seating::Seating;
 use chronicle::Chronicle;
 use events::copied;
+use seating::Seating;
 use std::alloc::{AllocError, Global};
 use std::marker::Model;
 use std::sync::Wait;

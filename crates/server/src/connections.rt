@@ -4,12 +4,13 @@ ghost use Rattle.std.specs.Prelude.{◌<◌};
 
 use crate::stopping::Stopping;
 use crossbeam_channel::Receiver;
-use desk::{BrokerDesk, Seating};
+use desk::BrokerDesk;
 use devices::{CountedReader, CountedWriter, MAX_FAILURES};
 use engine::{Desk, serve};
 use journal_file::{Appender, Storage};
 use lasting::SharedJournal;
 use log::{Log, warn};
+use seating::Seating;
 use serving::{JsonLines, LastingDesk, StoppingDesk};
 use std::alloc::Global;
 use std::net::TcpStream;

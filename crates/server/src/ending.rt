@@ -6,8 +6,8 @@ ghost use Rattle.workers.specs.Opening.{IsInUse, IsNameOf};
 ghost use Rattle.workers.specs.Seats.{AreAllInOrder};
 ghost use Rattle.serving.specs.Image.{IsBusyOrNoMemory, IsImageAfter, IsOpenedOver};
 
-use desk::Seating;
 use named::Broker;
+use seating::Seating;
 use session::Session;
 use std::alloc::Global;
 use words::Refusal;

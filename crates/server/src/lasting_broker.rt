@@ -7,9 +7,9 @@ ghost use Rattle.workers.specs.Seats.{AreAllInOrder};
 ghost use Rattle.serving.specs.Journaled.{IsLeftAfter};
 
 use crate::ending::seated;
-use desk::Seating;
 use journal_file::{Appender, Storage};
 use lasting::Settler;
+use seating::Seating;
 use serving::{Journaling, Left, Noted, Unserved};
 use std::alloc::Global;
 use words::Refusal;

@@ -7,12 +7,12 @@ ghost use Rattle.workers.specs.Opening.{IsNameOf};
 ghost use Rattle.serving.specs.Journaled.{IsLeftAfter, IsLeftBy};
 
 use crate::lasting_broker::LastingBroker;
-use desk::Seating;
 use devices::{MAX_FAILURES, Reader, Writer};
 use engine::serve;
 use journal_file::{Appender, Storage};
 use lasting::{Policy, Settler, SharedJournal};
 use named::Broker;
+use seating::Seating;
 use serving::{Journaling, JsonLines, LastingDesk, Left, Noted, Unserved, begin_noting};
 use std::alloc::Global;
 use std::marker::Brand;

@@ -4,11 +4,12 @@ ghost use Rattle.std.specs.Prelude.{◌≡◌, [], IfOk, IfSome, None, refl};
 ghost use Rattle.chronicle.specs.Chronicled.{entries};
 ghost use Rattle.desk.specs.Telling.{AreReplied};
 
-use desk::{MarkingDesk, Seating};
+use desk::MarkingDesk;
 use devices::Failed;
 use engine::Desk;
 use journal_file::{Appender, Storage};
 use lasting::SharedJournal;
+use seating::Seating;
 use std::alloc::{AllocError, Global};
 use std::sync::Wait;
 use wire::{Answer, Request};

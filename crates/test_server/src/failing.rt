@@ -6,10 +6,11 @@ ghost use Rattle.workers.specs.Opening.{IsNameOf};
 
 use crate::slow::{SlowReader, SlowWriter};
 use crate::story::STORY;
-use desk::{BrokerDesk, Seating};
+use desk::BrokerDesk;
 use devices::{CountedWriter, Failed, FaultyReader, FaultyWriter};
 use engine::{Desk, Failure, serve};
 use opening::opened;
+use seating::Seating;
 use serving::{JsonLines, pipe};
 use session::Session;
 use std::alloc::{AllocError, Global};

@@ -3,10 +3,11 @@
 ghost use Rattle.std.specs.Prelude.{◌≡◌};
 ghost use Rattle.workers.specs.Opening.{IsNameOf};
 
-use desk::{BrokerDesk, Seating};
+use desk::BrokerDesk;
 use directory::Name;
 use engine::Desk;
 use opening::opened;
+use seating::Seating;
 use session::Session;
 use std::alloc::Global;
 use std::marker::Brand;

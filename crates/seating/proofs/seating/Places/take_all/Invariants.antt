@@ -1,6 +1,6 @@
 use Rattle.std.proofs.Common.{◌≡◌, ◌+◌, ◌-◌, ◌≤◌, vec_len, vec_capacity}
 use Rattle.workers.specs.Seats.{AreAllInOrder}
-use Rattle.desk.proofs.seating.Places.take_all.Given as goal
+use Rattle.seating.proofs.seating.Places.take_all.Given as goal
 
 abbrev pub invariant-loop-number : goal.invariant-loop-number
 invariant-loop-number g l = record {

@@ -1,8 +1,8 @@
 use Rattle.std.proofs.Common.{◌≡◌, ◌++◌, length}
 use Rattle.std.specs.Vec.Iter.{into_iter_items, into_iter_len}
 use Rattle.workers.specs.Seats.{AreAllInOrder}
-use Rattle.desk.specs.Seating.{AreBack}
-use Rattle.desk.proofs.seating.Places.put_all.Given as goal
+use Rattle.seating.specs.Seating.{AreBack}
+use Rattle.seating.proofs.seating.Places.put_all.Given as goal
 
 abbrev pub invariant-loop-seat : goal.invariant-loop-seat
 invariant-loop-seat g l = record {

@@ -1,6 +1,6 @@
 use Rattle.std.proofs.Common.{arith, ap, length}
-use Rattle.desk.proofs.Placing.{back_more, parts_after}
-use Rattle.desk.proofs.seating.Places.put_all.Goals as goal
+use Rattle.seating.proofs.Placing.{back_more, parts_after}
+use Rattle.seating.proofs.seating.Places.put_all.Goals as goal
 
 pub loop-seat-preserved : goal.loop-seat-preserved
 loop-seat-preserved g c =

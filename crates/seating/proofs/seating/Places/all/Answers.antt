@@ -1,8 +1,8 @@
 use Rattle.std.proofs.Common.{◌≡◌, ◌∙◌, sym, []}
 use Rattle.std.proofs.lemmas.List.{nil_from_length}
 use Rattle.std.specs.Vec.Iter.{into_iter_items}
-use Rattle.desk.proofs.Placing.{all_of_none_left}
-use Rattle.desk.proofs.seating.Places.all.Goals as goal
+use Rattle.seating.proofs.Placing.{all_of_none_left}
+use Rattle.seating.proofs.seating.Places.all.Goals as goal
 
 pub returns-clause-order : goal.returns-clause-order
 returns-clause-order g c =

@@ -5,7 +5,7 @@ ghost use Rattle.std.specs.Prelude.{IfErr, IfOk, IfSome, IsNone, IsSome};
 ghost use Rattle.workers.specs.Refusals.{IsWhyNotRenewed};
 ghost use Rattle.workers.specs.Seats.{AreAllInOrder};
 ghost use Rattle.workers.specs.declared.deeds.Deed.{Deed as AnyDeed};
-ghost use Rattle.desk.specs.Seating.{AreBack, AreInPlaces};
+ghost use Rattle.seating.specs.Seating.{AreBack, AreInPlaces};
 
 use arena::SlotId;
 use std::alloc::Global;
@@ -97,8 +97,9 @@ impl<J: Naming> Places<J> {
 
 /// The empty place of a seat that a connection is using. It is no `Drop`, and only [`Seating::put`] takes it: a seat that
 /// was taken is put back.
-pub(crate) struct Owed {
-    client: Client,
+pub struct Owed {
+    /// Whose seat it is.
+    pub client: Client,
 }
 
 /// The empty places of all seats, likewise: only [`Seating::put_all`] takes it.
@@ -197,20 +198,20 @@ impl<J: Naming> Seating<J> {
 
     /// The connection is at work, until it lets go of this: nobody renews a queue meanwhile. Where queues are not
     /// renewed, it holds nothing.
-    pub(crate) fn at_work<R: Wait>(&self, rt: &R) -> Option<RwLockReadGuard<'_, ()>> {
+    pub fn at_work<R: Wait>(&self, rt: &R) -> Option<RwLockReadGuard<'_, ()>> {
         let rest = self.rest.as_ref()?;
         Some(rest.read(rt))
     }
 
     /// No connection is at work, until this is let go of; none, where queues are not renewed. Whoever asks is not at
     /// work.
-    pub(crate) fn at_rest<R: Wait>(&self, rt: &R) -> Option<RwLockWriteGuard<'_, ()>> {
+    pub fn at_rest<R: Wait>(&self, rt: &R) -> Option<RwLockWriteGuard<'_, ()>> {
         let rest = self.rest.as_ref()?;
         Some(rest.write(rt))
     }
 
     /// The client of this number, if there is one.
-    pub(crate) fn client(&self, number: u64) -> Option<Client>
+    pub fn client(&self, number: u64) -> Option<Client>
         ensures number { IfSome result (λ client. client.0 ≡ number) }
         ensures none { IsNone result ↔ (J.clients ≤ number) }
     {
@@ -221,7 +222,7 @@ impl<J: Naming> Seating<J> {
     }
 
     /// The client's seat, and the place that it leaves, unless another connection is using it.
-    pub(crate) fn take<R: Wait>(&self, rt: &R, client: Client) -> Option<(Owed, Seat<J>)>
+    pub fn take<R: Wait>(&self, rt: &R, client: Client) -> Option<(Owed, Seat<J>)>
         ensures owed { IfSome result (λ r. r.0.client ≡ client) }
         ensures seat { IfSome result (λ r. r.1.client ≡ client) }
     {
@@ -230,7 +231,7 @@ impl<J: Naming> Seating<J> {
     }
 
     /// The connection is not using the seat any more.
-    pub(crate) fn put<R: Wait>(&self, rt: &R, owed: Owed, seat: Seat<J>)
+    pub fn put<R: Wait>(&self, rt: &R, owed: Owed, seat: Seat<J>)
         requires { seat.client ≡ owed.client }
     {
         let Owed { client: _ } = owed;
@@ -268,7 +269,7 @@ impl<J: Naming> Seating<J> {
     /// The queue of a slot begins in fresh records, as [`Shared::renew`] makes it, once each call that was left
     /// Unfinished is finished. It is refused as there, for want of memory (NoMemory), and where a connection is using a
     /// seat (Busy), which is so of none while all are at rest.
-    pub(crate) fn renew<R: Wait>(
+    pub fn renew<R: Wait>(
         &self,
         rt: &R,
         shared: &Shared<J>,
@@ -285,7 +286,7 @@ impl<J: Naming> Seating<J> {
     }
 
     /// The whole system stops. It is refused for want of memory (NoMemory).
-    pub(crate) fn crash<R: Wait>(&self, rt: &R, shared: &Shared<J>) -> Result<(), Refusal>
+    pub fn crash<R: Wait>(&self, rt: &R, shared: &Shared<J>) -> Result<(), Refusal>
         ensures { IfErr result (λ refusal. refusal ≡ Refusal.NoMemory) }
     {
         lock(rt, &self.post).crash(rt, shared)

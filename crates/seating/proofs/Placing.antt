@@ -7,7 +7,7 @@ use Rattle.std.proofs.lemmas.Option.{same_Some, slice_get_within}
 use Rattle.words.specs.declared.call.Client.{Client}
 use Rattle.events.proofs.Facts.{get_push_cases}
 use Rattle.workers.specs.Seats.{AreAllInOrder}
-use Rattle.desk.specs.Seating.{AreBack, AreInPlaces}
+use Rattle.seating.specs.Seating.{AreBack, AreInPlaces}
 
 -- what stands between two parts
 pub get_middle : {X : Type 0} (xs : List X) (x : X) (ys : List X) → slice_get (xs ++ x ∷ ys) (length xs) ≡ Some x

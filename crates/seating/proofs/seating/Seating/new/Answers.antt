@@ -1,8 +1,8 @@
 use Rattle.std.proofs.Common.{arith, ◌≡◌, ◌∙◌, ap, sym, [], ◌∷◌, ◌++◌, Some, length, length-append}
 use Rattle.std.proofs.lemmas.List.{length-map, map-append, nil_from_length}
 use Rattle.std.specs.Vec.Iter.{into_iter_items}
-use Rattle.desk.proofs.Placing.{number_of_next, parts_after, places_of_none_left}
-use Rattle.desk.proofs.seating.Seating.new.Goals as goal
+use Rattle.seating.proofs.Placing.{number_of_next, parts_after, places_of_none_left}
+use Rattle.seating.proofs.seating.Seating.new.Goals as goal
 
 pub loop-seat-preserved : goal.loop-seat-preserved
 loop-seat-preserved g c =
