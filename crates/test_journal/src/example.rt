@@ -49,25 +49,6 @@ fn a_writer_writes_it(rt: HostRuntime) -> Result<(), Fail> {
     Ok(())
 }
 
-/// Adds the first frame after two that are refused, and says whether they were.
-fn add_after_refused(bytes: &mut Vec<u8>, writer: &mut Writer) -> Result<bool, Refusal> {
-    let empty = writer.frame(bytes, 0, &[]);
-    let past = writer.frame(bytes, 0, &[change(1, 0, 7), change(2, 0, 1)]);
-    let is_left = bytes.len() == HEAD_END;
-    writer.frame(bytes, HEAD_END as u64, &[change(1, 0, 7)])?;
-    Ok(empty == Err(Refusal::BadCount) && past == Err(Refusal::NoWord) && is_left)
-}
-
-#[test]
-fn a_refused_frame_leaves_the_bytes(rt: HostRuntime) -> Result<(), Fail> {
-    assert!(rt; matches!(Writer::begin(rt.alloc(), &KEY, &[]), Err(Refusal::BadCount)));
-    let (mut bytes, mut writer) = Writer::begin(rt.alloc(), &KEY, &[5, 0])?;
-    let are_refused = add_after_refused(&mut bytes, &mut writer);
-    assert_eq!(rt; are_refused, Ok(true));
-    assert_eq!(rt; bytes.as_slice(), &JOURNAL[..FIRST_END]);
-    Ok(())
-}
-
 /// Whether these bytes are read as a journal that ends on these words, with so many bytes cut off.
 fn is_read_as(alloc: Global, bytes: &[u8], words: &[u64], cut: usize) -> Result<bool, Fault> {
     let reading = read(alloc, bytes)?;
