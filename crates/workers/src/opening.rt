@@ -1,6 +1,6 @@
 //! How a session comes to be shared.
 
-ghost use Rattle.std.specs.Prelude.{◌≡◌, ◌∷◌, [], false, length, true, IfErr, IfOk, OnOk};
+ghost use Rattle.std.specs.Prelude.{◌≡◌, ◌≤◌, ◌∷◌, [], false, length, true, IfErr, IfOk, OnOk};
 ghost use Rattle.roll.specs.Rule.{IsKeeper, rows_of};
 ghost use Rattle.workers.specs.Noting.{IsBooked};
 ghost use Rattle.workers.specs.Opening.{IsInUse, IsNameOf, IsNotInUse, IsWhyNotOpened, HasNoCall};
@@ -112,6 +112,7 @@ fn given_seats<J: Naming>(
     clients: u32,
 ) -> Result<Vec<Seat<J>>, AllocError>
     requires lists { roll.now ≡ J.roll.lists }
+    requires few { clients ≤ 256 }
     requires keeper { IsKeeper roll.now [] keeper.old }
     ensures keeper { OnOk result (IsKeeper roll.now (rows_of keeper.new) keeper.new) }
     ensures rows { OnOk result (length (rows_of keeper.new) ≡ clients) }
