@@ -2,8 +2,8 @@
 
 ghost use Rattle.std.specs.Prelude.{◌≡◌, IfOk, false};
 ghost use Rattle.clap.specs.Words.{app_of, new_app, rule_of};
-ghost use Rattle.options.specs.Commands.{HasNoGlobals, pqd_app};
-ghost use Rattle.options.specs.Described.{described_app, described_rule, program_app, with_apps, with_rules};
+ghost use Rattle.command_lines.specs.Commands.{HasNoGlobals, pqd_app};
+ghost use Rattle.command_lines.specs.Described.{described_app, described_rule, program_app, with_apps, with_rules};
 
 use crate::program::VERSION;
 use clap::{Arg, ArgAction, Command};

@@ -2,7 +2,7 @@
 
 ghost use Rattle.std.specs.Prelude.{◌≡◌, IfOk};
 ghost use Rattle.clap.specs.Words.{app_of};
-ghost use Rattle.options.specs.PqxCommands.{pqx_app};
+ghost use Rattle.command_lines.specs.PqxCommands.{pqx_app};
 
 use crate::commands::{Described, DescribedCommand, Form, with_commands};
 use clap::Command;
