@@ -3,6 +3,7 @@
 #![tactic(auto)]
 
 mod commands;
+mod help;
 mod line;
 mod pqx_commands;
 mod pqx_line;
