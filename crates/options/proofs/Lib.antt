@@ -1,5 +1,2 @@
 -- Lemmas that the answers cite.
 mod Subcommand
-mod Faultless
-mod ByWords
-mod Fold

@@ -1,10 +1,7 @@
--- What the words of a command line ask.
-use Rattle.std.specs.Prelude.{◌≡◌, ◌⊎◌, ◌↔◌, IsTrue, List, [], Option, Some, None, ⊤, codes, option_map, option_and_then}
+-- What a command of `pqd` asks, by what its options were given.
+use Rattle.std.specs.Prelude.{◌≡◌, ◌⊎◌, ◌↔◌, IsTrue, List, Option, Some, None, ⊤, codes, option_map, option_and_then}
 use Rattle.words.specs.declared.limits.TheConstants.{MAX_CLIENTS, MAX_RECORDS}
-use Rattle.clap.specs.Words.{Row, Text, IsAmong, fault_of, first_of, kind_of, subcommand_of}
-use Rattle.clap.specs.declared.error.Error.{Error}
-use Rattle.clap.specs.declared.error.kind.ErrorKind.TheVariants.{OutOfMemory, ValueValidation}
-use Rattle.options.specs.Commands.{pqd_app}
+use Rattle.clap.specs.Words.{Row, Text, first_of}
 use Rattle.options.specs.declared.limits.TheConstants.{DEFAULT_CLIENTS, DEFAULT_RECORDS, DEFAULT_PORT, DEFAULT_WORKERS, MAX_PORT, MAX_WORKERS}
 use Rattle.options.specs.Numbers.{Fits, given_text, number_of}
 use Rattle.options.specs.declared.asked.Options.{Options}
@@ -22,14 +19,6 @@ name_in = option_map (λ met. met.0)
 -- the value of an option of that command
 abbrev pub values_in : Option (Text × List Row) → Text → Option Text
 values_in met option = option_and_then (λ m. first_of option m.1) met
-
--- the command that the words name
-abbrev pub command_name : List Text → Option Text
-command_name words = name_in (subcommand_of pqd_app words)
-
--- the value that the words give an option of that command
-abbrev pub given : List Text → Text → Option Text
-given words = values_in (subcommand_of pqd_app words)
 
 -- the command is one of two
 abbrev pub IsKnown : Option Text → Type 0
@@ -95,14 +84,3 @@ CommandAsks met o = Asks (name_in met) (values_in met) o
 -- what its options were given fits
 abbrev pub CommandFits : Option (Text × List Row) → Type 0
 CommandFits met = AllFit (name_in met) (values_in met)
-
--- the words ask this, and clap finds no fault with them
-pub record IsAsked (words : List Text) (o : Options) : Type 0 where
-  pub faultless : fault_of pqd_app words ≡ []
-  pub asks : Asks (command_name words) (given words) o
-
--- memory ran out, or the fault is one that clap finds with the words, or a number does not fit its option
-abbrev pub Refuses : List Text → Error → Type 0
-Refuses words e = (kind_of e ≡ OutOfMemory)
-    ⊎ (IsAmong (kind_of e) (fault_of pqd_app words)
-    ⊎ ((kind_of e ≡ ValueValidation) × ¬ (AllFit (command_name words) (given words))))

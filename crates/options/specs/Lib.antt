@@ -1,8 +1,4 @@
--- What the words of a command line ask.
+-- What a command asks, by what its options were given.
 pub mod Numbers
-pub mod Commands
 pub mod Asked
-pub mod PqxCommands
-pub mod Described
 pub mod PqxAsked
-pub mod Faults

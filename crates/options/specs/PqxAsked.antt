@@ -1,12 +1,9 @@
--- What the words of a command line ask of `pqx`.
-use Rattle.std.specs.Prelude.{◌≡◌, ◌≢◌, ◌⊎◌, List, [], Option, Some, None, codes, option_map, ⊤}
-use Rattle.clap.specs.Words.{Row, Text, IsAmong, fault_of, kind_of, subcommand_of}
-use Rattle.clap.specs.declared.error.Error.{Error}
-use Rattle.clap.specs.declared.error.kind.ErrorKind.TheVariants.{OutOfMemory, ValueValidation}
+-- What a command of `pqx` asks, by what its options were given.
+use Rattle.std.specs.Prelude.{◌≡◌, ◌≢◌, ◌⊎◌, List, Option, Some, None, codes, option_map, ⊤}
+use Rattle.clap.specs.Words.{Row, Text}
 use Rattle.options.specs.Asked.{name_in, values_in}
 use Rattle.options.specs.declared.limits.TheConstants.{DEFAULT_DRAW, MAX_DRAW, MAX_POINT}
 use Rattle.options.specs.Numbers.{Fits, decimal_value, given_text, number_of}
-use Rattle.options.specs.PqxCommands.{pqx_app}
 use Rattle.options.specs.declared.pqx.Choice.{Choice}
 use Rattle.options.specs.declared.pqx.Choice.TheVariants.{None as no_word, All as all_words, Drawn as drawn_words}
 use Rattle.options.specs.declared.pqx.PointOptions.{PointOptions}
@@ -91,14 +88,3 @@ CommandAsks met o = Asks (name_in met) (values_in met) o
 -- what its options were given fits
 abbrev pub CommandFits : Option (Text × List Row) → Type 0
 CommandFits met = AllFit (values_in met)
-
--- the words ask this, and clap finds no fault with them
-pub record IsPqxAsked (words : List Text) (o : PqxAsked) : Type 0 where
-  pub faultless : fault_of pqx_app words ≡ []
-  pub asks : Asks (name_in (subcommand_of pqx_app words)) (values_in (subcommand_of pqx_app words)) o
-
--- memory ran out, or the fault is one that clap finds with the words, or a value does not fit its option
-abbrev pub RefusesPqx : List Text → Error → Type 0
-RefusesPqx words e = (kind_of e ≡ OutOfMemory)
-    ⊎ (IsAmong (kind_of e) (fault_of pqx_app words)
-    ⊎ ((kind_of e ≡ ValueValidation) × ¬ (AllFit (values_in (subcommand_of pqx_app words)))))

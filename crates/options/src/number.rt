@@ -49,7 +49,7 @@ impl NumberOption {
 
 /// An option was given what it does not take.
 #[derive(Clone, Copy)]
-pub(crate) enum Misfit {
+pub enum Misfit {
     /// What is no number of its range.
     Number {
         name: &'static str,

@@ -1,25 +1,20 @@
-//! What the words of a command line ask of `pqx`.
+//! What a parse of a command line of `pqx` asks.
 
-ghost use Rattle.std.specs.Prelude.{◌≡◌, ◌⊎◌, IfOk, IfErr, OnErr, Some, codes, map, option_map};
+ghost use Rattle.std.specs.Prelude.{◌≡◌, IfOk, OnErr, Some, codes, option_map};
 ghost use Rattle.std.specs.Result.{OkIff};
-ghost use Rattle.clap.specs.Words.{app_of, first_value, found_of, kind_of, subcommand_rows_of};
+ghost use Rattle.clap.specs.Words.{first_value, found_of, subcommand_rows_of};
 ghost use Rattle.options.specs.declared.limits.TheConstants.{DEFAULT_DRAW, MAX_DRAW, MAX_POINT};
 ghost use Rattle.options.specs.Numbers.{Fits, IsNumberGiven, decimal_value, given_text};
 ghost use Rattle.options.specs.PqxAsked.{AllFit, AreTaken, Asks, AsksBrokerPoints, AsksCheck, AsksRun};
-ghost use Rattle.options.specs.PqxAsked.{Chooses, IsChoice, IsPqxAsked, IsTask, CommandAsks, CommandFits, RefusesPqx};
-ghost use Rattle.options.specs.PqxCommands.{pqx_app};
+ghost use Rattle.options.specs.PqxAsked.{Chooses, IsChoice, IsTask, CommandAsks, CommandFits};
 
 use crate::limits::DEFAULT_DRAW;
 use crate::pqx::{BrokerPointOptions, CheckOptions, Choice, PointOptions, PqxAsked, RunOptions};
-use crate::pqx_commands::pqx;
-use clap::error::ErrorKind;
-use clap::{ArgMatches, Command, Error};
-use std::alloc::Global;
-use std::convert::AsStr;
+use clap::ArgMatches;
 
 /// An option was given what it does not take.
 #[derive(Clone, Copy)]
-enum Misfit {
+pub enum PqxMisfit {
     Evict,
     Draw,
     From,
@@ -29,21 +24,23 @@ enum Misfit {
 }
 
 /// What such an option takes.
-fn text_of(misfit: Misfit) -> &'static str {
+pub fn text_of(misfit: PqxMisfit) -> &'static str {
     match misfit {
-        Misfit::Evict => "the option '--evict' takes none, all or drawn",
-        Misfit::Draw => "the option '--draw' takes a whole number from 0 to 18446744073709551615",
-        Misfit::From => "the option '--from' takes a whole number from 0 to 18446744073709551615",
-        Misfit::Count => {
+        PqxMisfit::Evict => "the option '--evict' takes none, all or drawn",
+        PqxMisfit::Draw =>
+            "the option '--draw' takes a whole number from 0 to 18446744073709551615",
+        PqxMisfit::From =>
+            "the option '--from' takes a whole number from 0 to 18446744073709551615",
+        PqxMisfit::Count => {
             "the option '--count' takes a whole number from 0 to 18446744073709551615"
         }
-        Misfit::Task => "broker takes run or points",
-        Misfit::Taken => "broker run takes neither '--evict' nor '--draw'",
+        PqxMisfit::Task => "broker takes run or points",
+        PqxMisfit::Taken => "broker run takes neither '--evict' nor '--draw'",
     }
 }
 
 /// The choice that is given, or none where none is.
-fn choice(given: Option<&str>) -> Result<Choice, Misfit>
+fn choice(given: Option<&str>) -> Result<Choice, PqxMisfit>
     ensures chosen { IfOk result (Chooses (given_text given.entry)) }
     ensures misfit { OnErr result (¬ (IsChoice (given_text given.entry))) }
 {
@@ -54,32 +51,32 @@ fn choice(given: Option<&str>) -> Result<Choice, Misfit>
         "none" => Ok(Choice::None),
         "all" => Ok(Choice::All),
         "drawn" => Ok(Choice::Drawn),
-        _ => Err(Misfit::Evict),
+        _ => Err(PqxMisfit::Evict),
     }
 }
 
 /// The state that is given, or the default where none is.
-fn draw(given: Option<&str>) -> Result<u64, Misfit>
+fn draw(given: Option<&str>) -> Result<u64, PqxMisfit>
     ensures { IsNumberGiven (given_text given.entry) 0 MAX_DRAW DEFAULT_DRAW result }
 {
     let Some(text) = given else {
         return Ok(DEFAULT_DRAW);
     };
-    text.parse::<u64>().map_err(|_| Misfit::Draw)
+    text.parse::<u64>().map_err(|_| PqxMisfit::Draw)
 }
 
 /// The first point that is given, or the very first where none is.
-fn first_point(given: Option<&str>) -> Result<u64, Misfit>
+fn first_point(given: Option<&str>) -> Result<u64, PqxMisfit>
     ensures { IsNumberGiven (given_text given.entry) 0 MAX_POINT 0 result }
 {
     let Some(text) = given else {
         return Ok(0);
     };
-    text.parse::<u64>().map_err(|_| Misfit::From)
+    text.parse::<u64>().map_err(|_| PqxMisfit::From)
 }
 
 /// How many points are wanted, if that is given.
-fn point_count(given: Option<&str>) -> Result<Option<u64>, Misfit>
+fn point_count(given: Option<&str>) -> Result<Option<u64>, PqxMisfit>
     ensures { OkIff result (Fits 0 MAX_POINT (given_text given.entry))
         (option_map decimal_value (given_text given.entry)) }
 {
@@ -88,12 +85,12 @@ fn point_count(given: Option<&str>) -> Result<Option<u64>, Misfit>
     };
     match text.parse::<u64>() {
         Ok(count) => Ok(Some(count)),
-        Err(_) => Err(Misfit::Count),
+        Err(_) => Err(PqxMisfit::Count),
     }
 }
 
 /// What a report on points is asked to be.
-fn points<'a>(given: &ArgMatches<'a>) -> Result<PqxAsked<'a>, Misfit>
+fn points<'a>(given: &ArgMatches<'a>) -> Result<PqxAsked<'a>, PqxMisfit>
     ensures asked { IfOk result (Asks (Some (codes "points")) (first_value (found_of given.now))) }
     ensures misfit { OnErr result (¬ (AllFit (first_value (found_of given.now)))) }
 {
@@ -130,7 +127,7 @@ fn check_options<'a>(given: &ArgMatches<'a>) -> CheckOptions<'a>
 }
 
 /// What a report on the points of a whole broker is asked to be.
-fn broker_points(given: &ArgMatches<'_>) -> Result<BrokerPointOptions, Misfit>
+fn broker_points(given: &ArgMatches<'_>) -> Result<BrokerPointOptions, PqxMisfit>
     requires { first_value (found_of given.now) (codes "task") ≡ Some (codes "points") }
     ensures asked { IfOk result (AsksBrokerPoints (first_value (found_of given.now))) }
     ensures misfit { OnErr result (¬ (AllFit (first_value (found_of given.now)))) }
@@ -141,22 +138,22 @@ fn broker_points(given: &ArgMatches<'_>) -> Result<BrokerPointOptions, Misfit>
 }
 
 /// The transcript of a whole broker's script, where nothing is said of words that are kept.
-fn broker_run<'a>(given: &ArgMatches<'a>) -> Result<PqxAsked<'a>, Misfit>
+fn broker_run<'a>(given: &ArgMatches<'a>) -> Result<PqxAsked<'a>, PqxMisfit>
     requires { first_value (found_of given.now) (codes "task") ≡ Some (codes "run") }
     ensures asked { IfOk result (Asks (Some (codes "broker")) (first_value (found_of given.now))) }
     ensures misfit { OnErr result (¬ (AllFit (first_value (found_of given.now)))) }
 {
     if given.get_str("evict").is_some() {
-        return Err(Misfit::Taken);
+        return Err(PqxMisfit::Taken);
     }
     if given.get_str("draw").is_some() {
-        return Err(Misfit::Taken);
+        return Err(PqxMisfit::Taken);
     }
     Ok(PqxAsked::BrokerRun)
 }
 
 /// What is asked of a script of a whole broker.
-fn broker_task<'a>(given: &ArgMatches<'a>) -> Result<PqxAsked<'a>, Misfit>
+fn broker_task<'a>(given: &ArgMatches<'a>) -> Result<PqxAsked<'a>, PqxMisfit>
     ensures asked { IfOk result (Asks (Some (codes "broker")) (first_value (found_of given.now))) }
     ensures misfit { OnErr result (¬ (AllFit (first_value (found_of given.now)))) }
 {
@@ -164,12 +161,12 @@ fn broker_task<'a>(given: &ArgMatches<'a>) -> Result<PqxAsked<'a>, Misfit>
         Some("points") => Ok(PqxAsked::BrokerPoints(broker_points(given)?)),
         Some("run") => broker_run(given),
         None => Ok(PqxAsked::BrokerRun),
-        Some(_) => Err(Misfit::Task),
+        Some(_) => Err(PqxMisfit::Task),
     }
 }
 
 /// What a command asks with the options that it was given.
-fn asked_by<'a>(command: &str, given: &ArgMatches<'a>) -> Result<PqxAsked<'a>, Misfit>
+fn asked_by<'a>(command: &str, given: &ArgMatches<'a>) -> Result<PqxAsked<'a>, PqxMisfit>
     ensures asked { IfOk result (Asks (Some command.now) (first_value (found_of given.now))) }
     ensures misfit { OnErr result (¬ (AllFit (first_value (found_of given.now)))) }
 {
@@ -183,7 +180,7 @@ fn asked_by<'a>(command: &str, given: &ArgMatches<'a>) -> Result<PqxAsked<'a>, M
 }
 
 /// What a parse found to be asked.
-fn asked<'a>(matches: &ArgMatches<'a>) -> Result<PqxAsked<'a>, Misfit>
+pub fn pqx_asked_in<'a>(matches: &ArgMatches<'a>) -> Result<PqxAsked<'a>, PqxMisfit>
     ensures asked { IfOk result (CommandAsks (subcommand_rows_of matches.now)) }
     ensures misfit { OnErr result (¬ (CommandFits (subcommand_rows_of matches.now))) }
 {
@@ -191,39 +188,4 @@ fn asked<'a>(matches: &ArgMatches<'a>) -> Result<PqxAsked<'a>, Misfit>
         Some((command, given)) => asked_by(command, given),
         None => Ok(PqxAsked::Run(RunOptions { page: None })),
     }
-}
-
-/// The error that tells of an option that does not fit, or that memory for it is wanting.
-fn refusal(command: &mut Command<'_>, misfit: Misfit) -> Error
-    ensures { (kind_of result ≡ ErrorKind.OutOfMemory) ⊎ (kind_of result ≡ ErrorKind.ValueValidation) }
-{
-    match command.error(ErrorKind::ValueValidation, text_of(misfit)) {
-        Ok(error) => error,
-        Err(error) => error.into(),
-    }
-}
-
-/// What the words ask of the command, of which the first is the program's name.
-fn asked_of<'a, S: AsStr>(command: &mut Command<'a>, words: &'a [S]) -> Result<PqxAsked<'a>, Error>
-    requires app { app_of command.old ≡ pqx_app }
-    ensures asked { IfOk result (IsPqxAsked (map S.text words.entry.now)) }
-    ensures refused { IfErr result (RefusesPqx (map S.text words.entry.now)) }
-{
-    let matches = command.try_get_matches_from_mut(words)?;
-    match asked(&matches) {
-        Ok(asked) => Ok(asked),
-        Err(misfit) => Err(refusal(command, misfit)),
-    }
-}
-
-/// What the words of a command line ask of `pqx`, of which the first is the program's name.
-///
-/// An error that is no want of memory has the text for the user and the status to end with: 0 where the words ask for
-/// help or the version, and else 2.
-pub fn pqx_command_line<'a, S: AsStr>(alloc: Global, words: &'a [S]) -> Result<PqxAsked<'a>, Error>
-    ensures asked { IfOk result (IsPqxAsked (map S.text words.entry.now)) }
-    ensures refused { IfErr result (RefusesPqx (map S.text words.entry.now)) }
-{
-    let mut command = pqx(alloc)?;
-    asked_of(&mut command, words)
 }

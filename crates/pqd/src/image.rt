@@ -2,7 +2,7 @@
 
 ghost use Rattle.std.specs.Prelude.{◌≡◌, ◌⊎◌, IfErr};
 
-use options::refusal_of;
+use command_lines::refusal_of;
 use persist::{HEADER_BYTES, MAX_WORDS, NUMBER_BYTES};
 use std::fs::{self, File};
 use std::io::{self, ErrorKind, Read, Write};

@@ -8,11 +8,12 @@ ghost use Rattle.pqd.specs.declared.Fault.TheVariants.{Refused};
 mod image;
 mod keeping;
 
+use command_lines::command_line;
 use devices::{CountedReader, CountedWriter};
 use log::Log;
 use named::Broker;
 use opening::{opened, renewed};
-use options::{Listening, Mode, Options, command_line};
+use options::{Listening, Mode, Options};
 use server::{Service, net};
 use serving::{Unserved, pipe};
 use std::fs::File;
@@ -169,16 +170,16 @@ fn follow<T: Threads + Wait + Net + Log + Clock + Sync>(
     threads: &T,
     rt: &HostRuntime,
 ) -> Result<ExitCode, Fault> {
-    let words = options::words(rt)?;
+    let words = command_lines::words(rt)?;
     match command_line(rt.alloc(), &words) {
         Ok(asked) => {
             serve(threads, rt, asked)?;
             Ok(ExitCode::SUCCESS)
         }
-        Err(error) => Ok(options::explained(rt, &error)?),
+        Err(error) => Ok(command_lines::explained(rt, &error)?),
     }
 }
 
 fn main(rt: HostRuntime) -> io::Result<ExitCode> {
-    options::ended(&rt, "pqd", follow(&rt, &rt))
+    command_lines::ended(&rt, "pqd", follow(&rt, &rt))
 }

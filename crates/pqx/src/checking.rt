@@ -64,7 +64,7 @@ fn input(rt: &HostRuntime) -> Result<Vec<u8>, Refusal> {
     let mut bytes = Vec::new(rt.alloc());
     match rt.reader().read_to_end(&mut bytes) {
         Ok(_) => Ok(bytes),
-        Err(error) => Err(options::refusal_of(&error)),
+        Err(error) => Err(command_lines::refusal_of(&error)),
     }
 }
 

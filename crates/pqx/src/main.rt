@@ -12,9 +12,10 @@ mod wanting;
 use crate::checking::check;
 use crate::progress::Progress;
 use crate::wanting::{evictions, wanted};
+use command_lines::pqx_command_line;
 use devices::{CountedReader, CountedWriter};
 use explore::Wanted;
-use options::{BrokerPointOptions, PointOptions, PqxAsked, RunOptions, pqx_command_line};
+use options::{BrokerPointOptions, PointOptions, PqxAsked, RunOptions};
 use std::process::ExitCode;
 use std::thread::Threads;
 use std::{fs, io};
@@ -162,13 +163,13 @@ fn answer<H: Threads + Sync>(
 
 /// Does what the command line asks for, and answers with which status to end.
 fn follow<H: Threads + Sync>(threads: &H, rt: &HostRuntime) -> Result<ExitCode, Fault> {
-    let words = options::words(rt)?;
+    let words = command_lines::words(rt)?;
     match pqx_command_line(rt.alloc(), &words) {
         Ok(asked) => Ok(answer(threads, rt, asked)?),
-        Err(error) => Ok(options::explained(rt, &error)?),
+        Err(error) => Ok(command_lines::explained(rt, &error)?),
     }
 }
 
 fn main(rt: HostRuntime) -> io::Result<ExitCode> {
-    options::ended(&rt, "pqx", follow(&rt, &rt))
+    command_lines::ended(&rt, "pqx", follow(&rt, &rt))
 }

@@ -1,9 +1,9 @@
 -- What a list of descriptions brings, one description at a time.
 use Rattle.std.proofs.Common.{◌≡◌, ℕ, ◌+◌, ◌<◌, List, length, get_or, drop, add-one, drop-cons, refl}
 use Rattle.clap.specs.Words.{App, Rule, with_rule, with_subcommand}
-use Rattle.options.specs.Described.{described_app, described_rule, with_apps, with_rules}
-use Rattle.options.specs.declared.commands.Described.{Described}
-use Rattle.options.specs.declared.commands.DescribedCommand.{DescribedCommand}
+use Rattle.command_lines.specs.Described.{described_app, described_rule, with_apps, with_rules}
+use Rattle.command_lines.specs.declared.commands.Described.{Described}
+use Rattle.command_lines.specs.declared.commands.DescribedCommand.{DescribedCommand}
 
 -- what a command takes next
 pub rules_step : (a b : App) (r : Rule) (taken : List Described) (k : ℕ) (d : Described) → k < length taken → r ≡ described_rule (get_or taken k d)

@@ -1,7 +1,7 @@
 use Rattle.std.proofs.Common.{◌≡◌, drop}
 use Rattle.clap.specs.Words.{app_of}
-use Rattle.options.specs.Described.{with_apps}
-use Rattle.options.proofs.commands.with_commands.Given as goal
+use Rattle.command_lines.specs.Described.{with_apps}
+use Rattle.command_lines.proofs.commands.with_commands.Given as goal
 
 -- the commands that are left bring what all of them do
 abbrev pub invariant-loop-subcommand : goal.invariant-loop-subcommand

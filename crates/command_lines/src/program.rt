@@ -3,7 +3,7 @@
 ghost use Rattle.std.specs.Prelude.{◌≡◌, ◌↔◌, ◌⊎◌, IfErr, IsErrOf};
 ghost use Rattle.std.specs.IoError.{error_kind};
 ghost use Rattle.clap.specs.Words.{kind_of};
-ghost use Rattle.options.specs.Faults.{refusal_of_system};
+ghost use Rattle.command_lines.specs.Faults.{refusal_of_system};
 
 use clap::error::ErrorKind;
 use std::process::ExitCode;

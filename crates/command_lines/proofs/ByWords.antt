@@ -4,11 +4,12 @@ use Rattle.std.specs.Prelude.{IfErr, IsErrAnd}
 use Rattle.clap.specs.Words.{App, HasKind, HasMatchesOf, Text, fault_of, is_simple, is_simple_and_free, subcommand_of, subcommand_rows_of}
 use Rattle.clap.specs.declared.error.Error.{Error}
 use Rattle.clap.specs.declared.parser.matches.ArgMatches.{ArgMatches}
-use Rattle.options.proofs.Faultless.{known}
-use Rattle.options.specs.Asked.{IsKnown, Refuses, name_in, values_in}
-use Rattle.options.specs.Commands.{pqd_app}
-use Rattle.options.specs.PqxAsked.{RefusesPqx}
-use Rattle.options.specs.PqxCommands.{pqx_app}
+use Rattle.options.specs.Asked.{IsKnown, name_in, values_in}
+use Rattle.command_lines.specs.Commands.{pqd_app}
+use Rattle.command_lines.specs.Lines.{Refuses}
+use Rattle.command_lines.specs.PqxCommands.{pqx_app}
+use Rattle.command_lines.specs.PqxLines.{RefusesPqx}
+use Rattle.command_lines.proofs.Faultless.{known}
 
 -- of a command whose arguments are simple and may stand in any order
 module _ (own : App) (simple : is_simple own ≡ true) (free : is_simple_and_free own ≡ true) where

@@ -2,12 +2,12 @@
 use Rattle.std.specs.Prelude.{List, fold, true}
 use Rattle.clap.specs.Words.{App, Rule, Text, new_app, with_rule, with_subcommand}
 use Rattle.clap.specs.Simple.{on_top}
-use Rattle.options.specs.Commands.{flag_rule, option_rule}
-use Rattle.options.specs.PqxCommands.{word_rule}
-use Rattle.options.specs.declared.commands.Described.{Described}
-use Rattle.options.specs.declared.commands.Form.{Form}
-use Rattle.options.specs.declared.commands.Form.TheVariants.{Option, Flag, Word}
-use Rattle.options.specs.declared.commands.DescribedCommand.{DescribedCommand}
+use Rattle.command_lines.specs.Commands.{flag_rule, option_rule}
+use Rattle.command_lines.specs.PqxCommands.{word_rule}
+use Rattle.command_lines.specs.declared.commands.Described.{Described}
+use Rattle.command_lines.specs.declared.commands.Form.{Form}
+use Rattle.command_lines.specs.declared.commands.Form.TheVariants.{Option, Flag, Word}
+use Rattle.command_lines.specs.declared.commands.DescribedCommand.{DescribedCommand}
 
 -- what a command takes as clap has it
 abbrev pub rule_by : Text → Form → Rule

@@ -2,9 +2,10 @@
 
 ghost use Rattle.std.specs.Prelude.{◌≡◌, IfOk, false};
 ghost use Rattle.clap.specs.Words.{app_of, new_app, rule_of};
-ghost use Rattle.options.specs.Commands.{HasNoGlobals, pqd_app};
-ghost use Rattle.options.specs.Described.{described_app, described_rule, program_app, with_apps, with_rules};
+ghost use Rattle.command_lines.specs.Commands.{HasNoGlobals, pqd_app};
+ghost use Rattle.command_lines.specs.Described.{described_app, described_rule, program_app, with_apps, with_rules};
 
+use crate::help::Notes;
 use crate::program::VERSION;
 use clap::{Arg, ArgAction, Command};
 use std::alloc::{AllocError, Global};
@@ -65,7 +66,7 @@ pub(crate) struct DescribedCommand<'a> {
     pub(crate) name: &'a str,
     pub(crate) about: &'a str,
     /// What help says below its options, if anything.
-    pub(crate) notes: Option<&'a str>,
+    pub(crate) notes: Option<Notes>,
     pub(crate) takes: &'a [Described<'a>],
 }
 
@@ -77,7 +78,7 @@ impl<'a> DescribedCommand<'a> {
     {
         let command = Command::new(alloc, self.name).about(self.about);
         match self.notes {
-            Some(notes) => command.after_help(notes),
+            Some(notes) => command.after_help(notes.text()),
             None => command,
         }
     }

@@ -1,6 +1,6 @@
 use Rattle.std.proofs.Common.{◌∙◌, rules}
-use Rattle.options.proofs.Fold.{rules_step}
-use Rattle.options.proofs.commands.with_taken.Goals as goal
+use Rattle.command_lines.proofs.Fold.{rules_step}
+use Rattle.command_lines.proofs.commands.with_taken.Goals as goal
 
 pub loop-described-preserved : goal.loop-described-preserved
 loop-described-preserved c = record {

@@ -1,8 +1,9 @@
 use Rattle.std.proofs.Common.{map, refl, inl, inr}
-use Rattle.options.specs.PqxAsked.{AllFit, Asks, RefusesPqx}
-use Rattle.options.specs.PqxCommands.{pqx_app}
-use Rattle.options.proofs.ByWords.{faultless, held_by_words, passed_on, pqx_refused}
-use Rattle.options.proofs.pqx_line.asked_of.Goals as goal
+use Rattle.options.specs.PqxAsked.{AllFit, Asks}
+use Rattle.command_lines.specs.PqxCommands.{pqx_app}
+use Rattle.command_lines.specs.PqxLines.{RefusesPqx}
+use Rattle.command_lines.proofs.ByWords.{faultless, held_by_words, passed_on, pqx_refused}
+use Rattle.command_lines.proofs.pqx_line.asked_of.Goals as goal
 
 pub returns-in_err-matches-clause-refused : goal.returns-in_err-matches-clause-refused
 returns-in_err-matches-clause-refused g c =

@@ -1,8 +1,8 @@
 use Rattle.std.proofs.Common.{◌≡◌, drop}
 use Rattle.clap.specs.Words.{app_of}
-use Rattle.options.specs.Commands.{HasNoGlobals}
-use Rattle.options.specs.Described.{with_rules}
-use Rattle.options.proofs.commands.with_taken.Given as goal
+use Rattle.command_lines.specs.Commands.{HasNoGlobals}
+use Rattle.command_lines.specs.Described.{with_rules}
+use Rattle.command_lines.proofs.commands.with_taken.Given as goal
 
 -- what is left brings what all of it does
 abbrev pub invariant-loop-described : goal.invariant-loop-described

@@ -1,8 +1,9 @@
 use Rattle.std.proofs.Common.{map, refl, inl, inr}
-use Rattle.options.specs.Asked.{AllFit, Asks, Refuses}
-use Rattle.options.specs.Commands.{pqd_app}
-use Rattle.options.proofs.ByWords.{faultless, held_by_words, known_met, passed_on, refused}
-use Rattle.options.proofs.line.asked_of.Goals as goal
+use Rattle.options.specs.Asked.{AllFit, Asks}
+use Rattle.command_lines.specs.Commands.{pqd_app}
+use Rattle.command_lines.specs.Lines.{Refuses}
+use Rattle.command_lines.proofs.ByWords.{faultless, held_by_words, known_met, passed_on, refused}
+use Rattle.command_lines.proofs.line.asked_of.Goals as goal
 
 pub returns-in_err-matches-clause-refused : goal.returns-in_err-matches-clause-refused
 returns-in_err-matches-clause-refused g c =
@@ -10,8 +11,8 @@ returns-in_err-matches-clause-refused g c =
     let error = c.in_err-matches.field-0.0 in
     passed_on _ error (Refuses words) c.from_residual.ensures.1 (refused _ words error c.requires.app c.in_err-matches.ensures.kinds)
 
-pub asked-requires : goal.asked-requires
-asked-requires g c = record {
+pub asked_in-requires : goal.asked_in-requires
+asked_in-requires g c = record {
   known = known_met _ _ c.in_ok-matches.matches c.requires.app c.in_ok-matches.ensures.ok.2 c.in_ok-matches.ensures.kinds;
 }
 

@@ -2,7 +2,7 @@ use Rattle.std.proofs.lemmas.Result.{IfOk-weaker, on_err_weaker}
 use Rattle.clap.specs.Words.{found_of}
 use Rattle.options.specs.Asked.{AllFit, Asks}
 use Rattle.options.proofs.Subcommand.{held_of_met}
-use Rattle.options.proofs.line.asked.Goals as goal
+use Rattle.options.proofs.line.asked_in.Goals as goal
 
 pub returns-clause-asked : goal.returns-clause-asked
 returns-clause-asked c = IfOk-weaker c.options.result _ _ (λ o h. held_of_met (λ command values. Asks command values o) c.args.matches.now c.in-Some.command.now

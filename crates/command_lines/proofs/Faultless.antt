@@ -11,8 +11,9 @@ use Rattle.clap.specs.Walk.{Held, Names, answers_to, finished, nothing_held, set
 use Rattle.clap.specs.Words.{Row, Shape, Text, fault_of, subcommand_of}
 use Rattle.clap.specs.declared.error.kind.ErrorKind.{ErrorKind}
 use Rattle.clap.specs.declared.error.kind.ErrorKind.TheVariants.{DisplayHelpOnMissingArgumentOrSubcommand, MissingSubcommand}
-use Rattle.options.specs.Asked.{IsKnown, command_name, name_in}
-use Rattle.options.specs.Commands.{pipe_app, pqd_app, serve_app}
+use Rattle.options.specs.Asked.{IsKnown, name_in}
+use Rattle.command_lines.specs.Commands.{pipe_app, pqd_app, serve_app}
+use Rattle.command_lines.specs.Lines.{command_name}
 
 filled : (k : ErrorKind) (ks : Kinds) → k ∷ ks ≡ [] → ⊥
 filled k ks e = let bad : length (k ∷ ks) ≡ 0 = ap (λ (all : Kinds). length all) e in absurd (omega arith)

@@ -2,7 +2,7 @@ use Rattle.std.proofs.lemmas.Result.{IfOk-weaker, on_err_weaker}
 use Rattle.clap.specs.Words.{found_of}
 use Rattle.options.specs.PqxAsked.{AllFit, Asks}
 use Rattle.options.proofs.Subcommand.{held_of_met}
-use Rattle.options.proofs.pqx_line.asked.Goals as goal
+use Rattle.options.proofs.pqx_line.pqx_asked_in.Goals as goal
 
 pub returns-in-Some-clause-asked : goal.returns-in-Some-clause-asked
 returns-in-Some-clause-asked c = IfOk-weaker c.asked_by.result _ _ (λ o h. held_of_met (λ command values. Asks command values o) c.args.matches.now c.in-Some.command.now

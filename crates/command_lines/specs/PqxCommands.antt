@@ -2,7 +2,7 @@
 use Rattle.std.specs.Prelude.{true, codes}
 use Rattle.clap.specs.Words.{App, Rule, Text, new_app, new_rule, with_rule, with_subcommand}
 use Rattle.clap.specs.Simple.{on_top}
-use Rattle.options.specs.Commands.{flag_rule, option_rule}
+use Rattle.command_lines.specs.Commands.{flag_rule, option_rule}
 
 -- a command with the options of a part of a report
 abbrev pub with_part_rules : App → App

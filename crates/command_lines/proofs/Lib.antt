@@ -1,0 +1,4 @@
+-- Lemmas that the answers cite.
+mod Faultless
+mod ByWords
+mod Fold
