@@ -1,7 +1,7 @@
 -- Lines that lead a broker on.
 use Rattle.std.proofs.Common.{List, [], ◌∷◌, ◌++◌}
+use Rattle.broker_lines.specs.declared.statements.Statement.{Statement}
 use Rattle.broker_script.specs.Play.{Played}
-use Rattle.broker_script.specs.declared.statements.Statement.{Statement}
 use Rattle.broker_points.specs.Points.{Leads, nowhere, further}
 
 pub leads_on : {old now new : Played} {first rest : List Statement} → Leads old first now → Leads now rest new

@@ -10,13 +10,13 @@ use Rattle.session.specs.Keeping.{SessionGoesOn}
 use Rattle.session.specs.Sessions.{Sessioned}
 use Rattle.explore.specs.Points.{evicted_words}
 use Rattle.explore.specs.declared.evictions.Evictions.{Evictions}
-use Rattle.broker_script.specs.Grammar.{counts_by}
+use Rattle.broker_lines.specs.Grammar.{counts_by}
+use Rattle.broker_lines.specs.declared.printed.Printed.{Printed}
+use Rattle.broker_lines.specs.declared.statements.BrokerLine.{BrokerLine}
+use Rattle.broker_lines.specs.declared.statements.Statement.{Statement}
+use Rattle.broker_lines.specs.declared.statements.Statement.TheVariants.{Whole as whole}
 use Rattle.broker_script.specs.Play.{Played, new_played, session_of}
 use Rattle.broker_script.specs.Transcript.{FollowsLine}
-use Rattle.broker_script.specs.declared.printed.Printed.{Printed}
-use Rattle.broker_script.specs.declared.statements.BrokerLine.{BrokerLine}
-use Rattle.broker_script.specs.declared.statements.Statement.{Statement}
-use Rattle.broker_script.specs.declared.statements.Statement.TheVariants.{Whole as whole}
 use Rattle.broker_points.specs.Reports.{point_text}
 
 -- some lines lead a broker from here to there

@@ -10,12 +10,12 @@ use Rattle.grammar.specs.Lines.{lines_of}
 use Rattle.named.specs.Brokers.{IsNew}
 use Rattle.session.specs.Sessions.{Sessioned}
 use Rattle.explore.specs.declared.evictions.Evictions.{Evictions}
-use Rattle.broker_script.specs.Grammar.{counts_by}
+use Rattle.broker_lines.specs.Grammar.{counts_by}
+use Rattle.broker_lines.specs.Script.{SaysScript}
+use Rattle.broker_lines.specs.Scripted.{Scripted}
+use Rattle.broker_lines.specs.declared.statements.BrokerLine.{BrokerLine}
+use Rattle.broker_lines.specs.declared.statements.Statement.{Statement}
 use Rattle.broker_script.specs.Play.{new_played}
-use Rattle.broker_script.specs.Script.{SaysScript}
-use Rattle.broker_script.specs.Scripted.{Scripted}
-use Rattle.broker_script.specs.declared.statements.BrokerLine.{BrokerLine}
-use Rattle.broker_script.specs.declared.statements.Statement.{Statement}
 use Rattle.broker_script.specs.Acts.{AreActsOf}
 use Rattle.broker_points.specs.Points.{IsPointAt}
 

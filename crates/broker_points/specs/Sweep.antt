@@ -1,7 +1,7 @@
 -- Points that were made.
 use Rattle.std.specs.Prelude.{ℕ, ◌+◌, IsTrue, List, ◌++◌, All, count_by, length, map, not}
 use Rattle.std.specs.List.{AllZip, concat, range_with_len}
-use Rattle.broker_script.specs.Grammar.{counts_by}
+use Rattle.broker_lines.specs.Grammar.{counts_by}
 use Rattle.broker_points.specs.Points.{IsPointAt}
 use Rattle.broker_points.specs.Run.{count_text}
 use Rattle.broker_points.specs.declared.point.Point.{Point}

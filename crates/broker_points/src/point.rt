@@ -3,7 +3,7 @@
 ghost use Rattle.std.specs.Prelude.{◌≡◌, ◌++◌, ◌∷◌, [], None, true, false, IsTrue, OnOk, IfOk, IfErr, map, replicate};
 ghost use Rattle.named.specs.GoingOn.{BrokerGoesOn};
 ghost use Rattle.session.specs.Keeping.{SessionGoesOn};
-ghost use Rattle.broker_script.specs.Grammar.{IsServedBroker};
+ghost use Rattle.broker_lines.specs.Grammar.{IsServedBroker};
 ghost use Rattle.broker_script.specs.Play.{session_of};
 ghost use Rattle.broker_script.specs.Standing.{keeps_queues, QueuesStay};
 ghost use Rattle.broker_script.specs.Transcript.{FollowsLine};
@@ -14,7 +14,8 @@ use crate::evicting::words_kept;
 use crate::kept::{are_explained, are_kept};
 use crate::texts::line;
 use arena::{BrokerLayout, SLOTS};
-use broker_script::{BrokerLine, Player, Printed, Statement};
+use broker_lines::{BrokerLine, Printed, Statement};
+use broker_script::Player;
 use directory::Places;
 use explore::Evictions;
 use grammar::Command;

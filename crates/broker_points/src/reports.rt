@@ -2,13 +2,14 @@
 
 ghost use Rattle.std.specs.Prelude.{◌≡◌, ◌++◌, OnOk, IfOk, IfErr, count_by, length, map, not, string_bytes};
 ghost use Rattle.std.specs.List.{concat};
-ghost use Rattle.broker_script.specs.Grammar.{counts_by, IsServedBroker};
+ghost use Rattle.broker_lines.specs.Grammar.{counts_by, IsServedBroker};
 ghost use Rattle.broker_points.specs.Run.{count_text, IsReport, IsReportOf};
 ghost use Rattle.broker_points.specs.Sweep.{report_on, text_of, AreOk};
 
 use crate::point::Point;
 use crate::sweep::{Schedule, all_points};
-use broker_script::{BrokerLine, Player, Script, Statement, accepted_acts};
+use broker_lines::{BrokerLine, Statement};
+use broker_script::{Player, Script, accepted_acts};
 use explore::{Evictions, Watch};
 use std::alloc::Global;
 use std::fmt::Write;

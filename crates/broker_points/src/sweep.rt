@@ -2,11 +2,11 @@
 
 ghost use Rattle.std.specs.Prelude.{◌≡◌, ◌+◌, ◌-◌, ◌<◌, ◌≤◌, ◌++◌, IsTrue, OnOk, IfOk, IfErr, length, map};
 ghost use Rattle.std.specs.List.{range_with_len};
-ghost use Rattle.broker_script.specs.Grammar.{IsServedBroker};
+ghost use Rattle.broker_lines.specs.Grammar.{IsServedBroker};
 ghost use Rattle.broker_points.specs.Sweep.{AreAllPointsOf, AreOk, ArePointsOf, IsPointOf};
 
 use crate::point::{Point, crash};
-use broker_script::{BrokerLine, Statement};
+use broker_lines::{BrokerLine, Statement};
 use explore::{Evictions, Watch};
 use rayon::prelude::*;
 use std::alloc::Global;

@@ -3,12 +3,13 @@ use Rattle.std.proofs.Common.{◌≡◌, refl, sym, subst, ℕ, ◌+◌, ◌<◌
 use Rattle.std.specs.Prelude.{Some, slice_get}
 use Rattle.grammar.specs.declared.commands.Command.TheVariants.{Again}
 use Rattle.playing.proofs.Facts.{comes_next, nothing_pending, pending, put_off_first}
+use Rattle.broker_lines.specs.Lines.{no_memory}
+use Rattle.broker_lines.specs.declared.printed.Printed.{Printed}
+use Rattle.broker_lines.specs.declared.statements.Statement.{Statement}
+use Rattle.broker_lines.specs.declared.statements.Statement.TheVariants.{Whole as whole}
 use Rattle.broker_script.specs.Play.{Played}
-use Rattle.broker_script.specs.PutOff.{no_memory, IsPutOff}
+use Rattle.broker_script.specs.PutOff.{IsPutOff}
 use Rattle.broker_script.specs.Transcript.{FollowsAll, FollowsLine}
-use Rattle.broker_script.specs.declared.printed.Printed.{Printed}
-use Rattle.broker_script.specs.declared.statements.Statement.{Statement}
-use Rattle.broker_script.specs.declared.statements.Statement.TheVariants.{Whole as whole}
 use Rattle.broker_script.proofs.Going.{all_again, all_end, all_more, AllLead}
 
 pub next_left : (start now next : Played) (all : List Statement) (m at : ℕ) (s : Statement) (lines more : List Printed)

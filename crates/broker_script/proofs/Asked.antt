@@ -14,11 +14,11 @@ use Rattle.session.specs.Keeping.{SessionGoesOn}
 use Rattle.session.specs.Requests.{IsBegunBy, IsRun, IsServedBy}
 use Rattle.session.specs.Sessions.{IsRight, Sessioned, kept_in}
 use Rattle.playing.specs.Play.{steps_with}
+use Rattle.broker_lines.specs.declared.statements.Ask.{Ask}
+use Rattle.broker_lines.specs.declared.statements.Ask.TheVariants.{Begin}
 use Rattle.broker_script.specs.Asking.{IsAskedIn, IsAnswered, as_answered, steps_begun}
 use Rattle.broker_script.specs.Play.{Played, session_of, steps_at}
 use Rattle.broker_script.specs.PutOff.{IsAsBefore, IsPutOff}
-use Rattle.broker_script.specs.declared.statements.Ask.{Ask}
-use Rattle.broker_script.specs.declared.statements.Ask.TheVariants.{Begin}
 use Rattle.broker_script.proofs.PutOffs.{as_before, beside_one, put_off, start_left}
 
 -- a start that was refused changes nothing but the count of accesses

@@ -8,16 +8,17 @@ use Rattle.arena.specs.declared.broker.SlotId.{SlotId}
 use Rattle.directory.specs.Directory.{HasQueue}
 use Rattle.directory.specs.declared.queue.Queue.{Queue}
 use Rattle.playing.specs.declared.lines.Line.TheVariants.{Refused, Recovering}
+use Rattle.broker_lines.specs.Lines.{no_memory}
+use Rattle.broker_lines.specs.declared.statements.Statement.{Statement}
+use Rattle.broker_lines.specs.declared.statements.Statement.TheVariants.{Whole as whole}
+use Rattle.broker_lines.specs.declared.printed.Printed.{Printed}
+use Rattle.broker_lines.specs.declared.printed.Printed.TheVariants.{Whole, Created, Creating}
 use Rattle.broker_script.specs.Creating.{Creates, IsCreatedOn, opens, ends, goes_on, stays}
 use Rattle.broker_script.specs.Play.{Played}
-use Rattle.broker_script.specs.PutOff.{no_memory, IsPutOff}
+use Rattle.broker_script.specs.PutOff.{IsPutOff}
 use Rattle.broker_script.specs.Recovering.{ready_lines, Recovers, RecoversBy, IsRecoveredOn, ready, ends_ready, goes_on_ready, stays_by, ready_by, ends_by, goes_on_by}
 use Rattle.broker_script.specs.Transcript.{FollowsAll, FollowsLine, none, more, made_again}
-use Rattle.broker_script.specs.declared.statements.Statement.{Statement}
-use Rattle.broker_script.specs.declared.statements.Statement.TheVariants.{Whole as whole}
 use Rattle.grammar.specs.declared.commands.Command.TheVariants.{Again}
-use Rattle.broker_script.specs.declared.printed.Printed.{Printed}
-use Rattle.broker_script.specs.declared.printed.Printed.TheVariants.{Whole, Created, Creating}
 
 -- what is left of a creation's steps comes to what all of them do
 pub record Leads (most left : ℕ) (start now : Played) : Type 0 where

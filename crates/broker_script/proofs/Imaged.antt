@@ -8,10 +8,10 @@ use Rattle.persist.specs.Memory.{words_at_rest}
 use Rattle.named.specs.Booting.{AreBootWords, IsBooted, MayRefuse}
 use Rattle.session.specs.Keeping.{AreKeptAsHeard}
 use Rattle.session.specs.Sessions.{Sessioned}
+use Rattle.broker_lines.specs.declared.printed.Printed.{Printed}
+use Rattle.broker_lines.specs.declared.printed.Printed.TheVariants.{Booted, Image}
 use Rattle.broker_script.specs.Imaging.{boot_line, digest_of, Boots, Images, IsOfBadCount}
 use Rattle.broker_script.specs.Play.{Played, new_played, session_of}
-use Rattle.broker_script.specs.declared.printed.Printed.{Printed}
-use Rattle.broker_script.specs.declared.printed.Printed.TheVariants.{Booted, Image}
 
 -- the words that are read from an image are those that it is of
 pub imaged : (old new : Played) (bytes words digest : List ℕ) (size : ℕ) (lines : List Printed)

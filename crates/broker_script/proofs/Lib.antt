@@ -1,7 +1,3 @@
-mod OtherLines
-mod Cuts
-mod Words
-mod Scripts
 mod Worlds
 mod Created
 mod Acted

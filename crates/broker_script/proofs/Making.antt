@@ -1,8 +1,8 @@
 -- Acts that are attempted one after another: what is left of them adds what all of them add.
 use Rattle.std.proofs.Common.{◌≡◌, refl, sym, ap, ◌∙◌, subst, List, [], ◌∷◌, ◌++◌, append_assoc, false, true}
 use Rattle.std.proofs.lemmas.List.{append-nil}
+use Rattle.broker_lines.specs.declared.statements.Statement.{Statement}
 use Rattle.broker_script.specs.Play.{Played}
-use Rattle.broker_script.specs.declared.statements.Statement.{Statement}
 use Rattle.broker_script.specs.Acts.{attempts_of, AreActsOf, Attempts, IsAttempted, all_made, ends_at, goes_on, no_line, line}
 use Rattle.broker_script.specs.Made.{Adds}
 

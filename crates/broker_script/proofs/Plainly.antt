@@ -6,16 +6,16 @@ use Rattle.grammar.specs.declared.commands.Command.TheVariants.{Again}
 use Rattle.arena.specs.Broker.{broker_size}
 use Rattle.named.specs.Brokers.{Brokered}
 use Rattle.playing.specs.declared.lines.Line.TheVariants.{Size}
-use Rattle.broker_script.specs.Grammar.{counts_by}
+use Rattle.broker_lines.specs.Grammar.{counts_by}
+use Rattle.broker_lines.specs.declared.printed.Printed.{Printed}
+use Rattle.broker_lines.specs.declared.printed.Printed.TheVariants.{Whole as whole_line}
+use Rattle.broker_lines.specs.declared.statements.BrokerLine.{BrokerLine}
+use Rattle.broker_lines.specs.declared.statements.Statement.{Statement}
+use Rattle.broker_lines.specs.declared.statements.Statement.TheVariants.{Whole}
 use Rattle.broker_script.specs.Plain.{is_answer, without_again, without_refusals, ArePlainLinesOf, FollowsPlainly, all_followed, next_line}
 use Rattle.broker_script.specs.Play.{Played}
 use Rattle.broker_script.specs.PutOff.{IsAsBefore, IsPutOff}
 use Rattle.broker_script.specs.Transcript.{AreLinesOf, FollowsAll, FollowsLine, none, more, made_again}
-use Rattle.broker_script.specs.declared.printed.Printed.{Printed}
-use Rattle.broker_script.specs.declared.printed.Printed.TheVariants.{Whole as whole_line}
-use Rattle.broker_script.specs.declared.statements.BrokerLine.{BrokerLine}
-use Rattle.broker_script.specs.declared.statements.Statement.{Statement}
-use Rattle.broker_script.specs.declared.statements.Statement.TheVariants.{Whole}
 use Rattle.broker_script.proofs.PutOffs.{nothing_made}
 use Rattle.broker_script.proofs.Said.{all_left, both_said, line_said, none_said, AreSaid}
 

@@ -3,8 +3,8 @@ use Rattle.std.proofs.Common.{ℕ, List}
 use Rattle.std.specs.Prelude.{Option, Some, None, Result, Ok, Err, IsErrOf, OnErr}
 use Rattle.std.specs.Io.KnownBytes.{Appends}
 use Rattle.devices.specs.Devices.{AppendsBeginning}
+use Rattle.broker_lines.specs.Scripted.{Scripted}
 use Rattle.broker_script.specs.Run.{Prints, PrintsBeginning, SaysInput}
-use Rattle.broker_script.specs.Scripted.{Scripted}
 use Rattle.broker_script.specs.Transcript.{IsTranscript}
 
 pub begins : (input old new : Option (List ℕ)) (script : Scripted) (printed : List ℕ) → SaysInput input script

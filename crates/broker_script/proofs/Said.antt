@@ -22,21 +22,22 @@ use Rattle.named.specs.declared.recovery.BrokerRecovery.{BrokerRecovery}
 use Rattle.playing.specs.Transcript.{evict_line}
 use Rattle.playing.specs.declared.lines.Line.{Line}
 use Rattle.playing.specs.declared.lines.Line.TheVariants.{Refused}
+use Rattle.broker_lines.specs.Lines.{of_queue}
+use Rattle.broker_lines.specs.declared.printed.Printed.{Printed}
+use Rattle.broker_lines.specs.declared.printed.Printed.TheVariants.{Whole as whole_line, Of, Queues, WasSet}
+use Rattle.broker_lines.specs.declared.statements.Ask.{Ask}
+use Rattle.broker_lines.specs.declared.statements.Ask.TheVariants.{Request, Plain, Begin}
+use Rattle.broker_lines.specs.declared.statements.Statement.{Statement}
+use Rattle.broker_lines.specs.declared.statements.Statement.TheVariants.{Create, BeginCreation, CreateStep, CreateSteps, Find, List as list_queues, Rotate, Renew, Image, SetWord, Boot, Whole, On, Told, Asks}
 use Rattle.broker_script.specs.Asking.{answer_line, begun_line, FollowsAsked}
 use Rattle.broker_script.specs.Creating.{Creates, IsBegunOn, IsCreationAnswered, stays, opens, ends, goes_on}
 use Rattle.broker_script.specs.Imaging.{boot_line, IsNotBooted}
 use Rattle.broker_script.specs.OnQueue.{found_line, Follows, FollowsPlaced, IsRefusedOn}
 use Rattle.broker_script.specs.Plain.{is_answer, without_refusals}
 use Rattle.broker_script.specs.Play.{Played}
-use Rattle.broker_script.specs.Recovering.{of_queue, ready_lines, told_below, told_in_slot, Recovers, RecoversBy, IsRecoveredOn, ready, ends_ready, goes_on_ready, stays_by, ready_by, ends_by, goes_on_by}
+use Rattle.broker_script.specs.Recovering.{ready_lines, told_below, told_in_slot, Recovers, RecoversBy, IsRecoveredOn, ready, ends_ready, goes_on_ready, stays_by, ready_by, ends_by, goes_on_by}
 use Rattle.broker_script.specs.Renewing.{renew_line, IsNotRenewed, RenewsPlaced}
 use Rattle.broker_script.specs.Transcript.{place_lines, places_below, places_of, rotate_line, FollowsLine, FollowsWhole}
-use Rattle.broker_script.specs.declared.printed.Printed.{Printed}
-use Rattle.broker_script.specs.declared.printed.Printed.TheVariants.{Whole as whole_line, Of, Queues, WasSet}
-use Rattle.broker_script.specs.declared.statements.Ask.{Ask}
-use Rattle.broker_script.specs.declared.statements.Ask.TheVariants.{Request, Plain, Begin}
-use Rattle.broker_script.specs.declared.statements.Statement.{Statement}
-use Rattle.broker_script.specs.declared.statements.Statement.TheVariants.{Create, BeginCreation, CreateStep, CreateSteps, Find, List as list_queues, Rotate, Renew, Image, SetWord, Boot, Whole, On, Told, Asks}
 
 -- none of some lines does
 pub AreSaid : List Printed → Type 0

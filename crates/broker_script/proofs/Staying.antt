@@ -27,6 +27,14 @@ use Rattle.named.specs.declared.recovery.BrokerRecovery.{BrokerRecovery}
 use Rattle.named.specs.declared.recovery.BrokerRecovery.TheVariants.{ReadDirectory, RecoverQueue}
 use Rattle.named.specs.declared.slot.Slot.{Slot}
 use Rattle.named.specs.declared.slot.Slot.TheVariants.{Closed, Open}
+use Rattle.broker_lines.specs.declared.printed.Printed.{Printed}
+use Rattle.broker_lines.specs.declared.printed.Printed.TheVariants.{Whole}
+use Rattle.broker_lines.specs.declared.statements.Ask.{Ask}
+use Rattle.broker_lines.specs.declared.statements.Statement.{Statement}
+use Rattle.broker_lines.specs.declared.statements.Statement.TheVariants.{Create, BeginCreation, CreateStep}
+use Rattle.broker_lines.specs.declared.statements.Statement.TheVariants.{CreateSteps, Find, List as list_queues}
+use Rattle.broker_lines.specs.declared.statements.Statement.TheVariants.{Rotate, Renew, Image, SetWord, Boot}
+use Rattle.broker_lines.specs.declared.statements.Statement.TheVariants.{Whole as whole, On, Told, Asks}
 use Rattle.broker_script.specs.Asking.{FollowsAsked}
 use Rattle.broker_script.specs.Creating.{Creates, IsBegunOn, stays, opens, ends, goes_on}
 use Rattle.broker_script.specs.OnQueue.{Follows, FollowsPlaced, IsRefusedOn, has_line}
@@ -43,14 +51,6 @@ use Rattle.named.specs.Renewing.{IsRenewedAt}
 use Rattle.named.specs.Rotating.{IsRotated, rotate_result}
 use Rattle.named.proofs.Facts.{broker_goes_further}
 use Rattle.playing.specs.declared.lines.Line.TheVariants.{Refused}
-use Rattle.broker_script.specs.declared.printed.Printed.{Printed}
-use Rattle.broker_script.specs.declared.printed.Printed.TheVariants.{Whole}
-use Rattle.broker_script.specs.declared.statements.Ask.{Ask}
-use Rattle.broker_script.specs.declared.statements.Statement.{Statement}
-use Rattle.broker_script.specs.declared.statements.Statement.TheVariants.{Create, BeginCreation, CreateStep}
-use Rattle.broker_script.specs.declared.statements.Statement.TheVariants.{CreateSteps, Find, List as list_queues}
-use Rattle.broker_script.specs.declared.statements.Statement.TheVariants.{Rotate, Renew, Image, SetWord, Boot}
-use Rattle.broker_script.specs.declared.statements.Statement.TheVariants.{Whole as whole, On, Told, Asks}
 use Rattle.broker_script.proofs.Worlds.{had_memory, listed_open}
 
 -- a queue that recovers goes on

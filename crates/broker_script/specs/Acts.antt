@@ -9,15 +9,15 @@ use Rattle.words.specs.declared.call.Client.{Client}
 use Rattle.playing.specs.Play.{most_alone}
 use Rattle.playing.specs.declared.lines.Line.{Line}
 use Rattle.playing.specs.declared.lines.Line.TheVariants.{Refused}
+use Rattle.broker_lines.specs.declared.printed.Printed.{Printed}
+use Rattle.broker_lines.specs.declared.printed.Printed.TheVariants.{Whole, Of, Unsound}
+use Rattle.broker_lines.specs.declared.statements.Ask.{Ask}
+use Rattle.broker_lines.specs.declared.statements.Ask.TheVariants.{Request, Plain, Begin}
+use Rattle.broker_lines.specs.declared.statements.Statement.{Statement}
+use Rattle.broker_lines.specs.declared.statements.Statement.TheVariants.{Create, BeginCreation, CreateStep, CreateSteps, Find, List as list_queues, Rotate, Renew, Image, SetWord, Boot, Whole as whole, On, Told, Asks}
 use Rattle.broker_script.specs.Asking.{asker}
 use Rattle.broker_script.specs.Play.{Played}
 use Rattle.broker_script.specs.Transcript.{FollowsLine}
-use Rattle.broker_script.specs.declared.printed.Printed.{Printed}
-use Rattle.broker_script.specs.declared.printed.Printed.TheVariants.{Whole, Of, Unsound}
-use Rattle.broker_script.specs.declared.statements.Ask.{Ask}
-use Rattle.broker_script.specs.declared.statements.Ask.TheVariants.{Request, Plain, Begin}
-use Rattle.broker_script.specs.declared.statements.Statement.{Statement}
-use Rattle.broker_script.specs.declared.statements.Statement.TheVariants.{Create, BeginCreation, CreateStep, CreateSteps, Find, List as list_queues, Rotate, Renew, Image, SetWord, Boot, Whole as whole, On, Told, Asks}
 
 -- a refused act gives one line that says so
 abbrev pub is_refusal : Line → Bool

@@ -14,12 +14,12 @@ use Rattle.session.specs.Sessions.{IsRight, Sessioned}
 use Rattle.playing.specs.Play.{steps_with}
 use Rattle.playing.specs.declared.lines.Line.TheVariants.{Refused}
 use Rattle.playing.specs.declared.steps.Steps.{Steps}
+use Rattle.broker_lines.specs.declared.printed.Printed.{Printed}
+use Rattle.broker_lines.specs.declared.printed.Printed.TheVariants.{Of, Replied, Begun}
+use Rattle.broker_lines.specs.declared.statements.Ask.{Ask}
+use Rattle.broker_lines.specs.declared.statements.Ask.TheVariants.{Request, Plain, Begin}
 use Rattle.broker_script.specs.OnQueue.{IsRefusedOn}
 use Rattle.broker_script.specs.Play.{Played, session_of, steps_at}
-use Rattle.broker_script.specs.declared.printed.Printed.{Printed}
-use Rattle.broker_script.specs.declared.printed.Printed.TheVariants.{Of, Replied, Begun}
-use Rattle.broker_script.specs.declared.statements.Ask.{Ask}
-use Rattle.broker_script.specs.declared.statements.Ask.TheVariants.{Request, Plain, Begin}
 
 -- who asks, and for which number
 abbrev pub asker : Ask → Client

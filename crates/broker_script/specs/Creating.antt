@@ -11,9 +11,9 @@ use Rattle.named.specs.Brokers.{Brokered, is_down, quiet, world_at, IsBegun, IsN
 use Rattle.named.specs.GoingOn.{BrokerGoesOn}
 use Rattle.playing.specs.Steps.{count_after}
 use Rattle.playing.specs.declared.lines.Line.TheVariants.{Refused}
+use Rattle.broker_lines.specs.declared.printed.Printed.{Printed}
+use Rattle.broker_lines.specs.declared.printed.Printed.TheVariants.{Whole, Created, Creating}
 use Rattle.broker_script.specs.Play.{Played}
-use Rattle.broker_script.specs.declared.printed.Printed.{Printed}
-use Rattle.broker_script.specs.declared.printed.Printed.TheVariants.{Whole, Created, Creating}
 
 -- the slot has a queue
 abbrev pub HasSomeQueue : Directory → ℕ → Type 0

@@ -9,9 +9,9 @@ use Rattle.persist.specs.declared.memory.TheConstants.{MAX_WORDS}
 use Rattle.named.specs.Booting.{AreBootWords, IsBooted, MayRefuse}
 use Rattle.session.specs.Keeping.{AreKeptAsHeard}
 use Rattle.playing.specs.declared.lines.Line.TheVariants.{Refused}
+use Rattle.broker_lines.specs.declared.printed.Printed.{Printed}
+use Rattle.broker_lines.specs.declared.printed.Printed.TheVariants.{Whole, Image, WasSet, Booted, Unsound}
 use Rattle.broker_script.specs.Play.{Played, new_played, session_of}
-use Rattle.broker_script.specs.declared.printed.Printed.{Printed}
-use Rattle.broker_script.specs.declared.printed.Printed.TheVariants.{Whole, Image, WasSet, Booted, Unsound}
 
 -- the first bytes of the SHA-256 of some bytes
 abbrev pub digest_of : List ℕ → List ℕ

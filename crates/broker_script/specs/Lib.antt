@@ -1,8 +1,3 @@
-pub mod Grammar
-pub mod Rows
-pub mod Scripted
-pub mod Script
-pub mod Prints
 pub mod Play
 pub mod PlayerView
 pub mod PutOff

@@ -1,13 +1,13 @@
 -- Acts that are added to a list as they are accepted, and lines as they are given.
 use Rattle.std.specs.Prelude.{◌≡◌, ℕ, List, ◌∷◌, ◌++◌, replicate}
 use Rattle.words.specs.declared.call.Kind.{Kind}
+use Rattle.broker_lines.specs.declared.statements.Ask.{Ask}
+use Rattle.broker_lines.specs.declared.statements.Statement.{Statement}
+use Rattle.broker_lines.specs.declared.statements.Statement.TheVariants.{BeginCreation, Asks}
+use Rattle.broker_lines.specs.declared.printed.Printed.{Printed}
 use Rattle.broker_script.specs.Play.{Played}
-use Rattle.broker_script.specs.declared.statements.Ask.{Ask}
-use Rattle.broker_script.specs.declared.statements.Statement.{Statement}
-use Rattle.broker_script.specs.declared.statements.Statement.TheVariants.{BeginCreation, Asks}
 use Rattle.broker_script.specs.Acts.{Attempts, attempts_of}
 use Rattle.broker_script.specs.Transcript.{FollowsLine}
-use Rattle.broker_script.specs.declared.printed.Printed.{Printed}
 
 -- these were attempted, and those that were accepted added to a list
 pub record Adds (old : Played) (attempts before after : List Statement) (new : Played) : Type 0 where

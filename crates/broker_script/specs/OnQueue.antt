@@ -20,11 +20,11 @@ use Rattle.playing.specs.Steps.{count_after}
 use Rattle.playing.specs.Transcript.{command_lines}
 use Rattle.playing.specs.declared.lines.Line.{Line}
 use Rattle.playing.specs.declared.lines.Line.TheVariants.{Refused, Return, Told as told_line}
-use Rattle.broker_script.specs.Grammar.{is_whole}
+use Rattle.broker_lines.specs.Grammar.{is_whole}
+use Rattle.broker_lines.specs.Lines.{of_queue}
+use Rattle.broker_lines.specs.declared.printed.Printed.{Printed}
+use Rattle.broker_lines.specs.declared.printed.Printed.TheVariants.{Whole, Of, Found}
 use Rattle.broker_script.specs.Play.{Played, play_at, the_world}
-use Rattle.broker_script.specs.Recovering.{of_queue}
-use Rattle.broker_script.specs.declared.printed.Printed.{Printed}
-use Rattle.broker_script.specs.declared.printed.Printed.TheVariants.{Whole, Of, Found}
 
 -- its slot as a line
 abbrev pub found_line : List ℕ → Result SlotId Refusal → Printed

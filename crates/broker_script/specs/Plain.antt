@@ -3,15 +3,15 @@ use Rattle.std.specs.Prelude.{◌≡◌, ◌≢◌, All, Bool, true, false, List
 use Rattle.words.specs.declared.refusal.Refusal.TheVariants.{NoMemory}
 use Rattle.grammar.specs.declared.commands.Command.TheVariants.{Again}
 use Rattle.playing.specs.declared.lines.Line.TheVariants.{Refused}
-use Rattle.broker_script.specs.Grammar.{counts_by}
+use Rattle.broker_lines.specs.Grammar.{counts_by}
+use Rattle.broker_lines.specs.declared.printed.Printed.{Printed}
+use Rattle.broker_lines.specs.declared.printed.Printed.TheVariants.{Whole as whole_line}
+use Rattle.broker_lines.specs.declared.statements.BrokerLine.{BrokerLine}
+use Rattle.broker_lines.specs.declared.statements.Statement.{Statement}
+use Rattle.broker_lines.specs.declared.statements.Statement.TheVariants.{Whole}
 use Rattle.broker_script.specs.Play.{Played}
 use Rattle.broker_script.specs.PutOff.{IsPutOff}
 use Rattle.broker_script.specs.Transcript.{FollowsLine, IsPlayedBy}
-use Rattle.broker_script.specs.declared.printed.Printed.{Printed}
-use Rattle.broker_script.specs.declared.printed.Printed.TheVariants.{Whole as whole_line}
-use Rattle.broker_script.specs.declared.statements.BrokerLine.{BrokerLine}
-use Rattle.broker_script.specs.declared.statements.Statement.{Statement}
-use Rattle.broker_script.specs.declared.statements.Statement.TheVariants.{Whole}
 
 -- a script without its lines `again`
 abbrev pub is_act : Statement → Bool

@@ -4,11 +4,7 @@ use Rattle.words.specs.declared.refusal.Refusal.{Refusal}
 use Rattle.words.specs.declared.refusal.Refusal.TheVariants.{NoMemory}
 use Rattle.named.specs.Brokers.{Brokered, quiet, world_at}
 use Rattle.session.specs.Sessions.{kept_in}
-use Rattle.playing.specs.Transcript.{refused_memory}
-use Rattle.playing.specs.declared.lines.Line.TheVariants.{Refused}
 use Rattle.broker_script.specs.Play.{Played}
-use Rattle.broker_script.specs.declared.printed.Printed.{Printed}
-use Rattle.broker_script.specs.declared.printed.Printed.TheVariants.{Whole}
 use Rattle.playing.specs.declared.put_off.Unfollowed.{Unfollowed}
 use Rattle.playing.specs.declared.put_off.Unfollowed.TheVariants.{PutOff, Halfway}
 
@@ -31,14 +27,6 @@ pub record IsPutOff (old new : Played) : Type 0 where
 -- a result that is not for want of memory
 abbrev pub HadMemory : {A : Type 0} → Result A Refusal → Type 0
 HadMemory result = result ≢ Err NoMemory
-
--- the line that says why an act on the whole broker was refused
-abbrev pub refusal_line : Refusal → Printed
-refusal_line refusal = Whole (Refused refusal)
-
--- the line that says that memory was refused
-abbrev pub no_memory : Printed
-no_memory = Whole refused_memory
 
 -- what a line leaves that gave nothing
 abbrev pub PutsOff : {A : Type 0} → Played → Result A Unfollowed → Played → Type 0

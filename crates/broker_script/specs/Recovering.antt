@@ -1,5 +1,5 @@
 -- Recovery, step by step.
-use Rattle.std.specs.Prelude.{◌≡◌, ◌<◌, ◌-◌, ℕ, zero, suc, Bool, true, false, List, [], ◌∷◌, ◌++◌, Option, Some, None, Result, Ok, Err, IfErr, length, map, slice_get}
+use Rattle.std.specs.Prelude.{◌≡◌, ◌<◌, ◌-◌, ℕ, zero, suc, Bool, true, false, List, [], ◌∷◌, ◌++◌, Option, Some, None, Result, Ok, Err, IfErr, length, slice_get}
 use Rattle.words.specs.declared.refusal.Refusal.{Refusal}
 use Rattle.directory.specs.declared.queue.Queue.{Queue}
 use Rattle.named.specs.GoingOn.{BrokerGoesOn}
@@ -9,13 +9,10 @@ use Rattle.playing.specs.Transcript.{told_at, told_lines}
 use Rattle.playing.specs.declared.lines.Line.{Line}
 use Rattle.playing.specs.declared.lines.Line.TheVariants.{Ready, Recovering, Refused}
 use Rattle.session.specs.Keeping.{AreKeptAfter, SessionGoesOn}
+use Rattle.broker_lines.specs.Lines.{of_queue}
+use Rattle.broker_lines.specs.declared.printed.Printed.{Printed}
+use Rattle.broker_lines.specs.declared.printed.Printed.TheVariants.{Whole}
 use Rattle.broker_script.specs.Play.{Played, session_of, the_world}
-use Rattle.broker_script.specs.declared.printed.Printed.{Printed}
-use Rattle.broker_script.specs.declared.printed.Printed.TheVariants.{Whole, Of}
-
--- lines that are about a queue
-abbrev pub of_queue : List ℕ → List Line → List Printed
-of_queue name lines = map (Of name) lines
 
 -- what each client of the queue in a slot is told, with its name before each line; of a free slot nothing
 abbrev pub told_at_slot : Played → ℕ → List Line

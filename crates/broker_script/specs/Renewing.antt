@@ -7,9 +7,9 @@ use Rattle.named.specs.Brokers.{Brokered}
 use Rattle.named.specs.Finding.{IsPlaced}
 use Rattle.named.specs.Renewing.{IsRenewedAt, IsWhyNotRenewedAt, MayRenew}
 use Rattle.playing.specs.declared.lines.Line.TheVariants.{Refused}
+use Rattle.broker_lines.specs.declared.printed.Printed.{Printed}
+use Rattle.broker_lines.specs.declared.printed.Printed.TheVariants.{Whole, Renewed}
 use Rattle.broker_script.specs.Play.{Played}
-use Rattle.broker_script.specs.declared.printed.Printed.{Printed}
-use Rattle.broker_script.specs.declared.printed.Printed.TheVariants.{Whole, Renewed}
 
 -- the line of a renewal
 abbrev pub renew_line : Result Unit Refusal → Printed

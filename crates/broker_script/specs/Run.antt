@@ -7,8 +7,8 @@ use Rattle.devices.specs.declared.device.Writer.{Ghosts as Writer}
 use Rattle.words.specs.declared.refusal.Refusal.{Refusal}
 use Rattle.words.specs.declared.refusal.Refusal.TheVariants.{BadLine}
 use Rattle.grammar.specs.Lines.{lines_of}
-use Rattle.broker_script.specs.Script.{SaysScript, IsFirstBad}
-use Rattle.broker_script.specs.Scripted.{Scripted}
+use Rattle.broker_lines.specs.Script.{SaysScript, IsFirstBad}
+use Rattle.broker_lines.specs.Scripted.{Scripted}
 use Rattle.broker_script.specs.Transcript.{IsTranscript}
 
 -- where the bytes to read are known, they say this script

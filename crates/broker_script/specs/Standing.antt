@@ -2,8 +2,8 @@
 use Rattle.std.specs.Prelude.{ℕ, Bool, true, false}
 use Rattle.directory.specs.Directory.{Directory, HasQueue}
 use Rattle.directory.specs.declared.queue.Queue.{Queue}
-use Rattle.broker_script.specs.declared.statements.Statement.{Statement}
-use Rattle.broker_script.specs.declared.statements.Statement.TheVariants.{Boot}
+use Rattle.broker_lines.specs.declared.statements.Statement.{Statement}
+use Rattle.broker_lines.specs.declared.statements.Statement.TheVariants.{Boot}
 
 -- each queue that there was is there: in its slot, under its name, and of its kind
 abbrev pub QueuesStay : Directory → Directory → Type 0

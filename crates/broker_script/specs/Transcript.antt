@@ -25,21 +25,22 @@ use Rattle.session.specs.Sessions.{Sessioned}
 use Rattle.playing.specs.Transcript.{evict_line}
 use Rattle.playing.specs.declared.lines.Line.{Line}
 use Rattle.playing.specs.declared.lines.Line.TheVariants.{Size, Refused, Crash as crash_line}
+use Rattle.broker_lines.specs.Grammar.{counts_by}
+use Rattle.broker_lines.specs.Lines.{no_memory}
+use Rattle.broker_lines.specs.Prints.{text_of}
+use Rattle.broker_lines.specs.declared.printed.Printed.{Printed}
+use Rattle.broker_lines.specs.declared.printed.Printed.TheVariants.{Whole, Of, Queues, Place, Rotated}
+use Rattle.broker_lines.specs.declared.statements.BrokerLine.{BrokerLine}
+use Rattle.broker_lines.specs.declared.statements.Statement.{Statement}
+use Rattle.broker_lines.specs.declared.statements.Statement.TheVariants.{Create, BeginCreation, CreateStep, CreateSteps, Find, List as list_queues, Rotate, Renew, Image, SetWord, Boot, Whole as whole, On, Told, Asks}
 use Rattle.broker_script.specs.Asking.{FollowsAsk}
 use Rattle.broker_script.specs.Creating.{BeginsCreation, Creates}
-use Rattle.broker_script.specs.Grammar.{counts_by}
 use Rattle.broker_script.specs.Imaging.{Boots, Images, SetsWord}
 use Rattle.broker_script.specs.OnQueue.{found_line, FollowsOn, IsToldLine}
 use Rattle.broker_script.specs.Play.{Played, new_played, session_of}
-use Rattle.broker_script.specs.Prints.{text_of}
-use Rattle.broker_script.specs.PutOff.{no_memory, IsPutOff}
+use Rattle.broker_script.specs.PutOff.{IsPutOff}
 use Rattle.broker_script.specs.Recovering.{Recovers, RecoversBy}
 use Rattle.broker_script.specs.Renewing.{Renews}
-use Rattle.broker_script.specs.declared.printed.Printed.{Printed}
-use Rattle.broker_script.specs.declared.printed.Printed.TheVariants.{Whole, Of, Queues, Place, Rotated}
-use Rattle.broker_script.specs.declared.statements.BrokerLine.{BrokerLine}
-use Rattle.broker_script.specs.declared.statements.Statement.{Statement}
-use Rattle.broker_script.specs.declared.statements.Statement.TheVariants.{Create, BeginCreation, CreateStep, CreateSteps, Find, List as list_queues, Rotate, Renew, Image, SetWord, Boot, Whole as whole, On, Told, Asks}
 
 -- the queues, in slot order
 abbrev pub place_lines : ℕ → Option (Option Queue) → List Printed

@@ -1,15 +1,14 @@
 //! The acts of a broker's script: each is a line of its own that makes one step at most.
 
 ghost use Rattle.std.specs.Prelude.{◌≡◌, ◌++◌, ◌∷◌, [], Some, OnOk, IfOk, IfErr, List, not, replicate};
+ghost use Rattle.broker_lines.specs.declared.statements.Statement.{Statement};
 ghost use Rattle.broker_script.specs.Play.{Played, new_played};
-ghost use Rattle.broker_script.specs.declared.statements.Statement.{Statement};
 ghost use Rattle.broker_script.specs.Acts.{act_of, beginning, plain_command, steps_of, is_refusal, is_refused, most_recovery, says_refused, times_of, AreActsOf, Attempts, IsAttempted};
 ghost use Rattle.broker_script.specs.Made.{Adds, AddsActsOf, AddsAsked, AddsBegun, AddsCreation};
 
 use crate::asking::asker;
 use crate::player::Player;
-use crate::printed::Printed;
-use crate::statements::{Ask, Statement};
+use broker_lines::{Ask, Printed, Statement};
 use directory::{CREATION_STEPS, Name};
 use grammar::Command;
 use playing::Line;

@@ -7,11 +7,9 @@ ghost use Rattle.playing.specs.Play.{steps_with};
 ghost use Rattle.broker_script.specs.Play.{steps_at};
 ghost use Rattle.broker_script.specs.PutOff.{HadMemory, IsPutOff, PutsOff};
 
-use crate::lines::Room;
 use crate::player::Player;
-use crate::printed::Printed;
-use crate::statements::Ask;
 use arena::{SLOTS, SlotId};
+use broker_lines::{Ask, Printed, Room};
 use directory::Name;
 use playing::{Line, Unfollowed};
 use std::alloc::Global;

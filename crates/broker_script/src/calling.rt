@@ -8,16 +8,14 @@ ghost use Rattle.playing.specs.Play.{after_steps, play_after_step};
 ghost use Rattle.playing.specs.Steps.{call_counted, count_after};
 ghost use Rattle.playing.specs.Transcript.{command_lines, entry_lines, order_lines, start_line, step_lines};
 ghost use Rattle.grammar.specs.Grammar.{is_shown};
-ghost use Rattle.broker_script.specs.Grammar.{is_whole};
+ghost use Rattle.broker_lines.specs.Grammar.{is_whole};
 ghost use Rattle.broker_script.specs.OnQueue.{answer_line, has_line, Follows, FollowsOn, FollowsPlaced, IsAnsweredBy, IsFollowedIn, IsOnlyIn, IsLeftByStartIn, IsWhyNoStep};
 ghost use Rattle.broker_script.specs.Play.{play_at, steps_at, the_world};
 ghost use Rattle.broker_script.specs.PutOff.{HadMemory, IsPutOff, PutsOff};
 
-use crate::lines::{Room, labelled, one_line, unfollowed};
 use crate::player::Player;
-use crate::printed::Printed;
-use crate::rows::is_whole;
 use arena::{SLOTS, SlotId};
+use broker_lines::{Printed, Room, is_whole, labelled, one_line, unfollowed};
 use directory::Name;
 use events::{Entry, Events};
 use grammar::{Command, is_on, is_shown};

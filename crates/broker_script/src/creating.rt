@@ -5,10 +5,9 @@ ghost use Rattle.directory.specs.Directory.{HasQueue};
 ghost use Rattle.broker_script.specs.Creating.{BeginsCreation, Creates, HasSomeQueue, IsBegunOn, IsCreatedOn, ShowsCreated};
 ghost use Rattle.broker_script.specs.PutOff.{PutsOff};
 
-use crate::lines::Room;
 use crate::player::Player;
-use crate::printed::Printed;
 use arena::SlotId;
+use broker_lines::{Printed, Room};
 use directory::{Name, Queue};
 use playing::{Line, Unfollowed};
 use std::alloc::Global;

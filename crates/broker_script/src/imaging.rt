@@ -11,9 +11,8 @@ ghost use Rattle.broker_script.specs.Play.{new_played};
 ghost use Rattle.broker_script.specs.PutOff.{PutsOff};
 
 use crate::acts::push;
-use crate::lines::{Room, refused};
 use crate::player::{Player, no_steps};
-use crate::printed::Printed;
+use broker_lines::{Printed, Room, refused};
 use named::Broker;
 use persist::{KeptWords, Memory};
 use playing::{Line, Unfollowed};

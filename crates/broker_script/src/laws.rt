@@ -1,19 +1,11 @@
 //! What holds of scripts of brokers: laws, of which the clauses say all.
 
-ghost use Rattle.std.specs.Prelude.{◌≡◌, ℕ, List, Option};
+ghost use Rattle.std.specs.Prelude.{◌≡◌, List, Option};
+ghost use Rattle.broker_lines.specs.declared.printed.Printed.{Printed};
+ghost use Rattle.broker_lines.specs.declared.statements.BrokerLine.{BrokerLine};
+ghost use Rattle.broker_lines.specs.declared.statements.Statement.{Statement};
 ghost use Rattle.broker_script.specs.Plain.{without_refusals, ArePlainButForRefusals, HasNoAgain};
-ghost use Rattle.broker_script.specs.Script.{SaysScript};
-ghost use Rattle.broker_script.specs.Scripted.{Scripted};
 ghost use Rattle.broker_script.specs.Transcript.{AreLinesOf};
-ghost use Rattle.broker_script.specs.declared.printed.Printed.{Printed};
-ghost use Rattle.broker_script.specs.declared.statements.BrokerLine.{BrokerLine};
-ghost use Rattle.broker_script.specs.declared.statements.Statement.{Statement};
-
-/// Lines say at most one script.
-pub fn one_script_a_text()
-    ensures { (lines : List (List ℕ)) (one other : Scripted)
-        → SaysScript lines one → SaysScript lines other → one ≡ other }
-{}
 
 /// A transcript without its lines that say that memory was refused is one of the script without its lines `again`, of
 /// which no line is put off.

@@ -1,26 +1,23 @@
 //! What a broker prints that follows a script.
 
 ghost use Rattle.std.specs.Prelude.{◌≡◌, ◌++◌, ◌∷◌, [], Ok, IfOk, IfErr, Some, false, true, slice_get};
-ghost use Rattle.broker_script.specs.Grammar.{counts_by, IsServedBroker};
+ghost use Rattle.broker_lines.specs.Grammar.{counts_by, IsServedBroker};
+ghost use Rattle.broker_lines.specs.Lines.{no_memory};
+ghost use Rattle.broker_lines.specs.declared.statements.Statement.{Statement};
 ghost use Rattle.broker_script.specs.Made.{AddsGiven};
 ghost use Rattle.broker_script.specs.Play.{new_played};
-ghost use Rattle.broker_script.specs.Prints.{text_of};
-ghost use Rattle.broker_script.specs.PutOff.{no_memory, IsPutOff};
+ghost use Rattle.broker_script.specs.PutOff.{IsPutOff};
 ghost use Rattle.broker_script.specs.Transcript.{AreLinesOf, FollowsAll, IsPlayedOn, IsTranscript};
-ghost use Rattle.broker_script.specs.declared.statements.Statement.{Statement};
 ghost use Rattle.grammar.specs.declared.commands.Command.{Command};
 
 use crate::acts::push;
-use crate::lines::{append, one};
 use crate::player::Player;
-use crate::printed::Printed;
 use crate::script::Script;
-use crate::statements::{BrokerLine, Statement};
 use arena::BrokerLayout;
+use broker_lines::{BrokerLine, Printed, Statement, append, one, text};
 use grammar::Command;
 use playing::{Line, Unfollowed, line_to_make};
 use std::alloc::Global;
-use std::fmt::Write;
 use words::Refusal;
 
 /// Whether the line at a place makes the one before again.
@@ -101,18 +98,6 @@ fn play(
     let mut lines = one(alloc, Printed::Whole(Line::Size(layout.size())))?;
     append(&mut lines, follow_all(alloc, player, statements)?)?;
     Ok(lines)
-}
-
-/// The text of the lines, a newline after each.
-fn text(alloc: Global, lines: &[Printed]) -> Result<Vec<u8>, Refusal>
-    ensures text { IfOk result (λ text. text.items ≡ text_of lines.now) }
-    ensures errors { IfErr result (λ e. e ≡ Refusal.NoMemory) }
-{
-    let mut text = String::new(alloc);
-    for line in lines {
-        writeln!(text, "{line}").map_err(|_| Refusal::NoMemory)?;
-    }
-    Ok(text.into_bytes())
 }
 
 /// What a broker prints that follows a script: the whole text, or NoMemory.

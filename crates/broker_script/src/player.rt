@@ -10,9 +10,8 @@ ghost use Rattle.named.specs.Promises.{KeepsPromises};
 ghost use Rattle.session.specs.Keeping.{AreKeptAsHeard};
 ghost use Rattle.session.specs.Sessions.{IsRight};
 
-use crate::printed::Printed;
-use crate::statements::Statement;
 use arena::SLOTS;
+use broker_lines::{Printed, Statement};
 use directory::CREATION_STEPS;
 use grammar::Command;
 use named::Broker;

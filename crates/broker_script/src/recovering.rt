@@ -9,10 +9,9 @@ ghost use Rattle.broker_script.specs.PutOff.{HadMemory, IsPutOff, PutsOff};
 ghost use Rattle.broker_script.specs.Recovering.{ready_lines, told_at_slot, told_below, told_of_slot, IsRecoveredOn, Recovers, RecoversBy};
 ghost use Rattle.broker_script.specs.Transcript.{Crashes};
 
-use crate::lines::{Room, append, labelled, one, refused};
 use crate::player::Player;
-use crate::printed::Printed;
 use arena::{SLOTS, SlotId};
+use broker_lines::{Printed, Room, append, labelled, one, refused};
 use directory::Queue;
 use playing::{Line, Unfollowed, add};
 use std::alloc::Global;

@@ -4,10 +4,9 @@ ghost use Rattle.std.specs.Prelude.{IfOk};
 ghost use Rattle.broker_script.specs.PutOff.{PutsOff};
 ghost use Rattle.broker_script.specs.Renewing.{RenewsIn, Renews};
 
-use crate::lines::{Room, refused};
 use crate::player::Player;
-use crate::printed::Printed;
 use arena::SlotId;
+use broker_lines::{Printed, Room, refused};
 use directory::Name;
 use playing::{Line, Unfollowed};
 use std::alloc::Global;

@@ -1,9 +1,9 @@
 //! A broker's script as a value.
 
 ghost use Rattle.std.specs.Prelude.{◌≡◌, IfSome};
-ghost use Rattle.broker_script.specs.Grammar.{IsServedBroker};
+ghost use Rattle.broker_lines.specs.Grammar.{IsServedBroker};
 
-use crate::statements::{BrokerLine, Statement};
+use broker_lines::{BrokerLine, Statement};
 use std::marker::Model;
 
 /// No broker and nothing to do, or a broker that is served and what is done on it, in order.
@@ -15,8 +15,8 @@ pub struct Script {
 
 impl Model for Script {
     ghost use Rattle.std.specs.Prelude.{IfSome};
-    ghost use Rattle.broker_script.specs.Grammar.{IsServedBroker};
-    ghost use Rattle.broker_script.specs.Scripted.{Scripted};
+    ghost use Rattle.broker_lines.specs.Grammar.{IsServedBroker};
+    ghost use Rattle.broker_lines.specs.Scripted.{Scripted};
 
     ghost Value = { Scripted };
 

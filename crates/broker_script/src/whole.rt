@@ -5,10 +5,9 @@ ghost use Rattle.broker_script.specs.OnQueue.{told_by, IsToldLine};
 ghost use Rattle.broker_script.specs.PutOff.{PutsOff};
 ghost use Rattle.broker_script.specs.Transcript.{list_lines, place_lines, places_below, Evicts, Finds, Rotates, Tells};
 
-use crate::lines::{Room, append, one, refused};
 use crate::player::Player;
-use crate::printed::Printed;
 use arena::{SLOTS, SlotId};
+use broker_lines::{Printed, Room, append, one, refused};
 use directory::{Name, Queue};
 use playing::{Line, Unfollowed};
 use std::alloc::Global;

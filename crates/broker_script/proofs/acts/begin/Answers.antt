@@ -1,8 +1,8 @@
 use Rattle.std.proofs.Common.{◌≡◌, replicate, subst, true, false}
 use Rattle.std.proofs.lemmas.Result.{on_ok_weaker}
 use Rattle.std.specs.Prelude.{Bool}
+use Rattle.broker_lines.specs.declared.statements.Statement.{Statement}
 use Rattle.broker_script.specs.Play.{Played}
-use Rattle.broker_script.specs.declared.statements.Statement.{Statement}
 use Rattle.broker_script.specs.Acts.{IsAttempted}
 use Rattle.broker_script.proofs.Making.{first_refused, first_then}
 use Rattle.broker_script.proofs.acts.begin.Goals as goal

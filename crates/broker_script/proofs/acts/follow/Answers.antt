@@ -1,9 +1,9 @@
 use Rattle.std.proofs.Common.{◌≡◌, ◌⊎◌, inl, inr, [], ℕ, List, ap, sym, subst}
 use Rattle.std.proofs.lemmas.List.{append-nil}
 use Rattle.words.specs.declared.call.Client.{Client}
+use Rattle.broker_lines.specs.declared.statements.Statement.{Statement}
+use Rattle.broker_lines.specs.declared.statements.Statement.TheVariants.{Find, List as list_queues, Told}
 use Rattle.broker_script.specs.Play.{Played}
-use Rattle.broker_script.specs.declared.statements.Statement.{Statement}
-use Rattle.broker_script.specs.declared.statements.Statement.TheVariants.{Find, List as list_queues, Told}
 use Rattle.broker_script.specs.Acts.{attempts_of, all_made}
 use Rattle.broker_script.specs.Made.{Adds}
 use Rattle.broker_script.proofs.acts.follow.Goals as goal

@@ -1,7 +1,7 @@
 use Rattle.std.proofs.Common.{◌≡◌, ◌-◌, ◌+◌, ◌<◌, ◌∷◌, ℕ, suc, List, ap, subst, replicate, true, false, arith}
 use Rattle.std.specs.Prelude.{Bool}
+use Rattle.broker_lines.specs.declared.statements.Statement.{Statement}
 use Rattle.broker_script.specs.Play.{Played}
-use Rattle.broker_script.specs.declared.statements.Statement.{Statement}
 use Rattle.broker_script.specs.Acts.{IsAttempted}
 use Rattle.broker_script.proofs.Making.{attempts_start, attempts_more, attempts_refused, attempts_end, AttemptsLead}
 use Rattle.broker_script.proofs.acts.repeat.Goals as goal

@@ -3,8 +3,8 @@ use Rattle.std.proofs.lemmas.Iterator.Splits.{YieldsList-from_slice_split}
 use Rattle.std.proofs.lemmas.Iterator.Consumers.{YieldsList-turn, YieldsList-end}
 use Rattle.std.proofs.lemmas.List.{take_all, length_push}
 use Rattle.grammar.specs.Lines.{lines_of, without_last_newline}
-use Rattle.broker_script.specs.Script.{Says, IsFirstBad}
-use Rattle.broker_script.proofs.Scripts.{goes_on, stops, stops_past}
+use Rattle.broker_lines.specs.Script.{Says, IsFirstBad}
+use Rattle.broker_lines.proofs.Facts.{goes_on, stops, stops_past}
 use Rattle.broker_script.proofs.parser.parse_script.Goals as goal
 
 pub overflow_add-number : goal.overflow_add-number

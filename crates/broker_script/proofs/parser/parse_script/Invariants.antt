@@ -1,6 +1,6 @@
 use Rattle.std.proofs.Common.{◌≡◌, ◌≤◌, length, take}
 use Rattle.grammar.specs.Lines.{lines_of}
-use Rattle.broker_script.specs.Script.{Says}
+use Rattle.broker_lines.specs.Script.{Says}
 use Rattle.grammar.specs.declared.limits.TheConstants.{MAX_LINES}
 use Rattle.broker_script.proofs.parser.parse_script.Given as goal
 

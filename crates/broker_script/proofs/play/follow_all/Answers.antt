@@ -3,8 +3,8 @@ use Rattle.std.proofs.lemmas.Option.{slice_get_within}
 use Rattle.std.specs.Prelude.{Ok}
 use Rattle.grammar.specs.declared.commands.Command.TheVariants.{Again}
 use Rattle.playing.proofs.Facts.{made_first, made_within}
-use Rattle.broker_script.specs.declared.statements.Statement.{Statement}
-use Rattle.broker_script.specs.declared.statements.Statement.TheVariants.{Whole as whole}
+use Rattle.broker_lines.specs.declared.statements.Statement.{Statement}
+use Rattle.broker_lines.specs.declared.statements.Statement.TheVariants.{Whole as whole}
 use Rattle.broker_script.proofs.Again.{all_made, next_left}
 use Rattle.broker_script.proofs.Going.{AllLead}
 use Rattle.broker_script.proofs.play.follow_all.Goals as goal

@@ -1,6 +1,6 @@
 use Rattle.std.proofs.Common.{◌∷◌, [], ap, sym, ◌∙◌}
 use Rattle.std.proofs.lemmas.Bool.{false≢true}
-use Rattle.broker_script.specs.declared.printed.Printed.{Printed}
+use Rattle.broker_lines.specs.declared.printed.Printed.{Printed}
 use Rattle.broker_script.proofs.player.Player.ask_placed.Goals as goal
 
 pub returns-clause-asks : goal.returns-clause-asks

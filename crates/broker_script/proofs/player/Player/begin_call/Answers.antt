@@ -5,10 +5,10 @@ use Rattle.words.specs.declared.refusal.Refusal.{Refusal}
 use Rattle.words.specs.declared.refusal.Refusal.TheVariants.{NoMemory}
 use Rattle.named.specs.Brokers.{Brokered, world_at}
 use Rattle.session.specs.Requests.{IsBegunBy, request_answer}
+use Rattle.broker_lines.specs.declared.statements.Ask.{Ask}
+use Rattle.broker_lines.specs.declared.statements.Ask.TheVariants.{Begin}
 use Rattle.broker_script.specs.PlayerView.{player_view}
 use Rattle.broker_script.specs.Play.{Played}
-use Rattle.broker_script.specs.declared.statements.Ask.{Ask}
-use Rattle.broker_script.specs.declared.statements.Ask.TheVariants.{Begin}
 use Rattle.broker_script.proofs.Asked.{ask_put_off, asked_as, asked_begun, begun_refused}
 use Rattle.broker_script.proofs.Worlds.{open_within}
 use Rattle.broker_script.proofs.player.Player.begin_call.Goals as goal

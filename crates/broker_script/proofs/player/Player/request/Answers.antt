@@ -4,9 +4,9 @@ use Rattle.words.specs.declared.call.Reply.{Reply}
 use Rattle.words.specs.declared.refusal.Refusal.{Refusal}
 use Rattle.words.specs.declared.refusal.Refusal.TheVariants.{NoMemory}
 use Rattle.session.specs.Requests.{IsServedBy, request_answer}
+use Rattle.broker_lines.specs.declared.statements.Ask.{Ask}
+use Rattle.broker_lines.specs.declared.statements.Ask.TheVariants.{Request}
 use Rattle.broker_script.specs.PlayerView.{player_view}
-use Rattle.broker_script.specs.declared.statements.Ask.{Ask}
-use Rattle.broker_script.specs.declared.statements.Ask.TheVariants.{Request}
 use Rattle.broker_script.proofs.Asked.{ask_put_off, asked_as, served_refused, was_refused}
 use Rattle.broker_script.proofs.player.Player.request.Goals as goal
 

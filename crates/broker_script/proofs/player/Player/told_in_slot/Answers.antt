@@ -3,7 +3,8 @@ use Rattle.std.proofs.lemmas.Option.{slice_get_read}
 use Rattle.std.proofs.lemmas.Result.{IfOk-weaker}
 use Rattle.std.specs.Prelude.{Some, None, slice_get}
 use Rattle.named.specs.Brokers.{IsWell}
-use Rattle.broker_script.specs.Recovering.{of_queue, told_in_slot}
+use Rattle.broker_lines.specs.Lines.{of_queue}
+use Rattle.broker_script.specs.Recovering.{told_in_slot}
 use Rattle.broker_script.proofs.Worlds.{listed_open}
 use Rattle.broker_script.proofs.player.Player.told_in_slot.Goals as goal
 

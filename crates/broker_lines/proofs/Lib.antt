@@ -1,0 +1,5 @@
+mod OtherLines
+mod Cuts
+mod Words
+mod Scripts
+pub mod Facts

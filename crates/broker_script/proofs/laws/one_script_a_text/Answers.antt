@@ -1,5 +1,0 @@
-use Rattle.broker_script.proofs.Scripts.{one_script}
-use Rattle.broker_script.proofs.laws.one_script_a_text.Goals as goal
-
-pub returns : goal.returns
-returns c = one_script
