@@ -3,10 +3,9 @@
 ghost use Rattle.std.specs.Prelude.{IfOk, IfSome};
 ghost use Rattle.answers.specs.Answers.{IsExplanation, IsRefutation, IsRight};
 
-use crate::filling::told_events;
-use crate::prefix::{Prefix, prefix_of};
 use events::{Entry, Events, History, Order, Sequence};
 use findings::{Lack, Witness, explains_known, refutes};
+use prefixes::{Prefix, prefix_of, told_events};
 use recording::Recording;
 use seeking::{Found, search};
 use std::alloc::{AllocError, Global};

@@ -2,8 +2,5 @@
 #![tactic(auto)]
 
 mod answer;
-mod filling;
-mod prefix;
 
 pub use answer::{Answer, Explanation, Refutation, Watch, answer_of};
-pub use prefix::{Prefix, prefix_of};

@@ -253,6 +253,85 @@ pub(crate) fn once(alloc: Global, empties: &[(usize, usize)]) -> Result<Vec<usiz
     Ok(moments)
 }
 
+/// The numbers of the pairs from one place up to another.
+fn numbers_of(
+    alloc: Global,
+    pairs: &[(usize, usize)],
+    from: usize,
+    to: usize,
+) -> Result<Vec<usize>, AllocError> {
+    let mut numbers = Vec::new(alloc);
+    for place in from..to {
+        numbers.push(pairs.get(place).copied().unwrap_or((0, 0)).1)?;
+    }
+    Ok(numbers)
+}
+
+/// The values on their way through the queue: which are gone, and how often each was marked; and the calls so far.
+#[derive(Drop)]
+struct Passage {
+    gone: Vec<usize>,
+    marks: Vec<usize>,
+    line: Line,
+}
+
+impl Passage {
+    fn begin(alloc: Global, count: usize) -> Result<Self, AllocError> {
+        let line = Line {
+            entries: Vec::new(alloc),
+            put: 0,
+            take: 0,
+        };
+        Ok(Passage {
+            gone: copies(alloc, 0, count)?,
+            marks: copies(alloc, 0, count)?,
+            line,
+        })
+    }
+
+    /// Lets the values of a block pass; whether all of them can.
+    fn pass(
+        &mut self,
+        alloc: Global,
+        items: &[Item],
+        numbers: &[usize],
+    ) -> Result<bool, AllocError> {
+        let block = lists_of(alloc, items, numbers)?;
+        let mut order = Vec::with_capacity(alloc, numbers.len())?;
+        if !add_block(alloc, &block, &mut self.gone, &mut self.marks, &mut order)? {
+            return Ok(false);
+        }
+        self.line.add_block(alloc, items, &order)?;
+        Ok(true)
+    }
+
+    /// Lets all values pass, block by block, and behind each block the takes that found nothing at the next moment;
+    /// whether all of them can.
+    fn pass_all(
+        &mut self,
+        alloc: Global,
+        items: &[Item],
+        empties: &[(usize, usize)],
+        moments: &[usize],
+        pairs: &[(usize, usize)],
+    ) -> Result<bool, AllocError> {
+        let groups = keys(alloc, pairs)?;
+        let mut from = 0;
+        let mut answered = 0;
+        for group in 0..moments.len().saturating_add(1) {
+            let to = count_below(&groups, group.saturating_add(1));
+            if !self.pass(alloc, items, &numbers_of(alloc, pairs, from, to)?)? {
+                return Ok(false);
+            }
+            from = to;
+            if let Some(moment) = moments.get(group) {
+                answered = self.line.add_empties(empties, answered, *moment)?;
+            }
+        }
+        Ok(true)
+    }
+}
+
 /// An order of all calls that are known to have taken effect, if one is found.
 pub(crate) fn ordered(
     alloc: Global,
@@ -261,32 +340,9 @@ pub(crate) fn ordered(
 ) -> Result<Option<Vec<Entry>>, AllocError> {
     let moments = once(alloc, empties)?;
     let pairs = grouped(alloc, items, &moments)?;
-    let groups = keys(alloc, &pairs)?;
-    let mut gone = copies(alloc, 0, items.len())?;
-    let mut marks = copies(alloc, 0, items.len())?;
-    let mut line = Line {
-        entries: Vec::new(alloc),
-        put: 0,
-        take: 0,
-    };
-    let mut from = 0;
-    let mut answered = 0;
-    for group in 0..moments.len().saturating_add(1) {
-        let to = count_below(&groups, group.saturating_add(1));
-        let mut numbers = Vec::new(alloc);
-        for place in from..to {
-            numbers.push(pairs.get(place).copied().unwrap_or((0, 0)).1)?;
-        }
-        from = to;
-        let block = lists_of(alloc, items, &numbers)?;
-        let mut order = Vec::with_capacity(alloc, numbers.len())?;
-        if !add_block(alloc, &block, &mut gone, &mut marks, &mut order)? {
-            return Ok(None);
-        }
-        line.add_block(alloc, items, &order)?;
-        if let Some(moment) = moments.get(group) {
-            answered = line.add_empties(empties, answered, *moment)?;
-        }
+    let mut passage = Passage::begin(alloc, items.len())?;
+    if !passage.pass_all(alloc, items, empties, &moments, &pairs)? {
+        return Ok(None);
     }
-    Ok(Some(line.entries))
+    Ok(Some(passage.line.entries))
 }

@@ -1,7 +1,8 @@
 //! The recording as a page: one HTML file with a picture, a lane for each client and a bar for each call.
 
-use answers::{Answer, Explanation, Prefix, prefix_of};
+use answers::{Answer, Explanation};
 use findings::{Lack, Witness};
+use prefixes::{Prefix, prefix_of};
 use recording::{Act, Recording, Said, shown};
 use std::alloc::{AllocError, Global};
 use std::fmt::Write;

@@ -1,8 +1,9 @@
 //! The verdict as text.
 
-use answers::{Answer, Prefix};
+use answers::Answer;
 use events::Entry;
 use findings::{Lack, Piece, Since, Witness, rank_of};
+use prefixes::Prefix;
 use recording::{Act, Recording, Said, shown};
 use seeking::{Known, KnownCall};
 use std::alloc::{AllocError, Global};

@@ -179,7 +179,7 @@ impl Prefix {
     }
 
     /// What was learnt of calls, by their places.
-    pub(crate) fn learnt(&self, alloc: Global) -> Result<Vec<Option<Outcome>>, AllocError> {
+    pub fn learnt(&self, alloc: Global) -> Result<Vec<Option<Outcome>>, AllocError> {
         let mut learnt = Vec::with_capacity(alloc, self.calls.places)?;
         for _ in 0..self.calls.places {
             learnt.push(None)?;
@@ -215,11 +215,7 @@ impl Prefix {
     }
 
     /// The events, whose Readys tell nothing.
-    pub(crate) fn events(
-        &self,
-        alloc: Global,
-        recording: &Recording,
-    ) -> Result<Events, AllocError> {
+    pub fn events(&self, alloc: Global, recording: &Recording) -> Result<Events, AllocError> {
         let mut events = self.room(alloc)?;
         for place in 0..self.count_events() {
             events.reserve(1)?;

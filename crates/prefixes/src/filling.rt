@@ -36,7 +36,7 @@ fn tell(told: &mut Reports, client: Client, number: u64, reply: Option<Reply>) {
 }
 
 /// The events of the first steps. Each Ready tells a client of its last call, and whether that is in the order.
-pub(crate) fn told_events(
+pub fn told_events(
     alloc: Global,
     recording: &Recording,
     prefix: &Prefix,
