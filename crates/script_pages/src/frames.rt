@@ -66,23 +66,42 @@ fn differing(alloc: Global, world: &World) -> Result<Vec<Differs>, Refusal>
     Ok(differs)
 }
 
+/// Makes an act, and adds its frame.
+fn add_frame(
+    alloc: Global,
+    world: &mut World,
+    act: &Act,
+    frames: &mut Vec<Frame>,
+) -> Result<(), Refusal>
+    ensures errors { IfErr result (λ e. e ≡ Refusal.NoMemory) }
+{
+    let reply = make(world, act)?;
+    let differs = differing(alloc, world)?;
+    let frame = Frame {
+        act: *act,
+        reply,
+        differs,
+    };
+    frames.push(frame).map_err(|_| Refusal::NoMemory)
+}
+
+/// The frames of acts on a world.
+fn frames_in(alloc: Global, world: &mut World, acts: &[Act]) -> Result<Vec<Frame>, Refusal>
+    ensures errors { IfErr result (λ e. e ≡ Refusal.NoMemory) }
+{
+    let mut frames = Vec::new(alloc);
+    for act in acts {
+        add_frame(alloc, world, act, &mut frames)?;
+    }
+    Ok(frames)
+}
+
 /// The frames of acts on a new world.
 fn frames_on(alloc: Global, layout: Layout, acts: &[Act]) -> Result<Vec<Frame>, Refusal>
     ensures errors { IfErr result (λ e. e ≡ Refusal.NoMemory) }
 {
     let mut world = World::make(alloc, layout)?;
-    let mut frames = Vec::new(alloc);
-    for act in acts {
-        let reply = make(&mut world, act)?;
-        let differs = differing(alloc, &world)?;
-        let frame = Frame {
-            act: *act,
-            reply,
-            differs,
-        };
-        frames.push(frame).map_err(|_| Refusal::NoMemory)?;
-    }
-    Ok(frames)
+    frames_in(alloc, &mut world, acts)
 }
 
 /// The frames of a script's acts.
