@@ -1,4 +1,2 @@
 mod Leading
-mod Drawing
-mod Explaining
 mod Sweeps

@@ -1,4 +1,3 @@
 pub mod Points
-pub mod Reports
 pub mod Run
 pub mod Sweep

@@ -1,13 +1,10 @@
 //! Scripts of a whole broker, crashed everywhere: what a crash after each act of one comes to, as text.
 #![tactic(auto)]
 
-mod evicting;
-mod kept;
 mod point;
 mod reports;
 mod runs;
 mod sweep;
-mod texts;
 
 pub use point::{Point, crash};
 pub use reports::report;

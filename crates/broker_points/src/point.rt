@@ -8,12 +8,10 @@ ghost use Rattle.broker_script.specs.Play.{session_of};
 ghost use Rattle.broker_script.specs.Standing.{keeps_queues, QueuesStay};
 ghost use Rattle.broker_script.specs.Transcript.{FollowsLine};
 ghost use Rattle.broker_points.specs.Points.{downtime, eviction, IsPointAfterAll, Leads};
-ghost use Rattle.broker_points.specs.Reports.{line_of_point};
+ghost use Rattle.broker_checks.specs.Reports.{line_of_point};
 
-use crate::evicting::words_kept;
-use crate::kept::{are_explained, are_kept};
-use crate::texts::line;
 use arena::{BrokerLayout, SLOTS};
+use broker_checks::{are_explained, are_kept, line, words_kept};
 use broker_lines::{BrokerLine, Printed, Statement};
 use broker_script::Player;
 use directory::Places;

@@ -1,0 +1,3 @@
+mod Drawing
+mod Explaining
+pub mod Facts
