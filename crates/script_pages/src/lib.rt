@@ -2,6 +2,7 @@
 #![tactic(auto)]
 
 mod frames;
+mod pen;
 mod pictures;
 mod stories;
 
