@@ -37,7 +37,7 @@ use Rattle.interleave.proofs.Facts.{recovery_next, recovery_reads, some_left, to
 use Rattle.interleave.specs.Ranges.{KeptFit}
 use Rattle.interleave.specs.Values.{value_of_place}
 use Rattle.playing.specs.Transcript.{told_at}
-use Rattle.playing.proofs.Facts.{after_acts_shape}
+use Rattle.attempts.proofs.Facts.{after_acts_shape}
 use Rattle.explore.specs.Points.{recovered, recovery_of}
 use Rattle.explore.proofs.Sizes.{after_acts_size}
 

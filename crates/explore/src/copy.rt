@@ -8,10 +8,10 @@ ghost use Rattle.interleave.specs.Queue.{told_in};
 ghost use Rattle.interleave.specs.State.{after_acts, after_stop, taken_of};
 ghost use Rattle.explore.specs.Points.{events_once_ready, recovered, recovery_of};
 
+use attempts::most_to_ready;
 use events::copied;
 use interleave::World;
 use persist::{EvictableWords, KeptWords, Memory, WordMemory};
-use playing::most_to_ready;
 use recover::boot;
 use words::Reports;
 

@@ -9,9 +9,9 @@ ghost use Rattle.playing.specs.Transcript.{told_at};
 use crate::evictions::{Evictions, evict_words};
 use crate::spare::Spare;
 use arena::Layout;
+use attempts::{attempt_all, most_to_ready, repeat};
 use checker::check_content;
 use interleave::{Act, World};
-use playing::{attempt_all, most_to_ready, repeat};
 use std::alloc::Global;
 use words::{Client, MAX_CLIENTS, Refusal, Reports, Told, Value};
 

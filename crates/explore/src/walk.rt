@@ -11,8 +11,8 @@ use crate::point::{Point, crash};
 use crate::spare::Spare;
 use crate::stop::{Probe, stop};
 use arena::Layout;
+use attempts::{attempt, attempt_all};
 use interleave::{Act, World};
-use playing::{attempt, attempt_all};
 use std::alloc::Global;
 use words::Refusal;
 

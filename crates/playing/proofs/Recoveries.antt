@@ -13,8 +13,8 @@ by_recovery : (w : State) (r : Option _) (refusal : Refusal) → recover_result_
 by_recovery w None refusal is = refl
 by_recovery w (Some r) refusal is = absurd (cc)
 
-pub refused_same : (w : State) (refusal : Refusal) → recover_result false w ≡ Err refusal → after_recover false w ≡ w
-refused_same w refusal is = by_recovery w w.recovery refusal is
+pub recovery_refused : (w : State) (refusal : Refusal) → recover_result false w ≡ Err refusal → after_recover false w ≡ w
+recovery_refused w refusal is = by_recovery w w.recovery refusal is
 
 -- steps of recovery, by what comes of the first
 by_first : (more : ℕ) (play : Play) (r : Result Bool Refusal) → recover_result false play.world ≡ r

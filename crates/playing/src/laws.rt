@@ -1,18 +1,10 @@
-//! What holds of every script.
+//! What holds of every transcript.
 
 ghost use Rattle.std.specs.Prelude.{◌≡◌, ℕ, List, Option};
-ghost use Rattle.arena.specs.Shape.{Shape};
 ghost use Rattle.grammar.specs.declared.commands.Command.{Command};
 ghost use Rattle.grammar.specs.declared.commands.QueueLine.{QueueLine};
-ghost use Rattle.playing.specs.Acts.{attempted_world, followed_world};
 ghost use Rattle.playing.specs.Transcript.{script_lines, script_text, AreButForRefusals, AreLinesOf, HasNoAgain, IsTranscript};
 ghost use Rattle.playing.specs.declared.lines.Line.{Line};
-
-/// The world that a transcript follows is that of all that the commands attempt. Of these attempts `points` and `alone`
-/// take the accepted ones.
-pub fn transcripts_follow_attempts()
-    ensures { (s : Shape) (commands : List Command) → followed_world s commands ≡ attempted_world s commands }
-{}
 
 /// A transcript has the lines that the script gives where no memory is refused, and beside them such alone as say that
 /// it was.

@@ -4,10 +4,10 @@ ghost use Rattle.std.specs.Prelude.{◌≡◌, IfErr};
 ghost use Rattle.grammar.specs.Grammar.{IsServedQueue};
 
 use arena::Layout;
+use attempts::{accepted_acts, attempt};
 use grammar::{Command, QueueLine};
 use interleave::{Act, World};
 use persist::KeptWords;
-use playing::{accepted_acts, attempt};
 use std::alloc::Global;
 use words::{Refusal, Reply};
 

@@ -1,0 +1,5 @@
+mod Shapes
+mod InOrder
+mod Attempted
+mod StoppedCalls
+pub mod Facts
