@@ -2,7 +2,6 @@
 #![tactic(auto)]
 
 mod frames;
-mod pen;
 mod pictures;
 mod stories;
 

@@ -2,7 +2,6 @@
 
 ghost use Rattle.std.specs.Prelude.{◌≡◌, IfErr};
 
-use crate::pen::Pen;
 use explore::{Evictions, Point, Report, Wanted, evicted_count};
 use grammar::QueueLine;
 use interleave::Act;
@@ -155,30 +154,16 @@ fn colour(told: Told) -> &'static str {
     }
 }
 
-/// The values that a queue holds, each behind a space, or a dash.
-#[derive(Clone, Copy)]
-struct Held<'a>(&'a [Value]);
-
-impl fmt::Display for Held<'_> {
-    fn fmt<W: fmt::Write>(&self, f: &mut fmt::Formatter<W>) -> fmt::Result {
-        if self.0.is_empty() {
-            return f.write_str(" -");
-        }
-        for value in self.0 {
-            write!(f, " {value}")?;
-        }
-        Ok(())
+/// The values that a queue holds, or a dash.
+fn values(alloc: Global, content: &[Value]) -> Result<String, AllocError> {
+    let mut text = String::new(alloc);
+    for value in content {
+        write!(text, " {value}")?;
     }
-}
-
-/// The label of what a client is told.
-#[derive(Clone, Copy)]
-struct ToldLabel(usize);
-
-impl fmt::Display for ToldLabel {
-    fn fmt<W: fmt::Write>(&self, f: &mut fmt::Formatter<W>) -> fmt::Result {
-        write!(f, "client {} is told", self.0)
+    if text.is_empty() {
+        write!(text, " -")?;
     }
+    Ok(text)
 }
 
 /// How high a part is that holds upright texts, the longest of which has so many characters.
@@ -221,7 +206,7 @@ fn sizes_of(alloc: Global, setting: &Setting, points: &[Point]) -> Result<Sizes,
     for point in points {
         most_steps = most_steps.max(point.steps);
         longest_told = longest_told.max(longest_of(alloc, tellings(point, clients))?);
-        longest = longest.max(format!(in alloc; "{}", Held(&point.content))?.len() as u64);
+        longest = longest.max(values(alloc, &point.content)?.len() as u64);
     }
     let acts = acts_height(alloc, &setting.acts)?.saturating_add(NUMBER_END);
     let evictions = acts.saturating_add(EVICTIONS_HEIGHT);
@@ -243,180 +228,219 @@ fn sizes_of(alloc: Global, setting: &Setting, points: &[Point]) -> Result<Sizes,
 }
 
 /// A text that is read from below, in the part that ends here.
-fn upright<T: fmt::Display + Drop>(pen: &mut Pen, end: u64, what: T) {
-    let base = end.saturating_sub(TEXT_GAP);
-    pen.failed |= writeln!(
-        pen.text,
-        "<text transform=\"translate(16,{base}) rotate(-90)\">{what}</text>"
+fn upright(text: &mut String, end: u64, what: &str) -> Result<(), AllocError> {
+    writeln!(
+        text,
+        "<text transform=\"translate(16,{}) rotate(-90)\">{what}</text>",
+        end.saturating_sub(TEXT_GAP)
     )
-    .is_err();
 }
 
 /// The steps of a point's recovery, as a bar with their number above it.
-fn bar(pen: &mut Pen, sizes: Sizes, steps: u64) {
+fn bar(text: &mut String, sizes: Sizes, steps: u64) -> Result<(), AllocError> {
     let height = steps.saturating_mul(BAR_HEIGHT) / sizes.most_steps.max(1);
     let top = sizes.steps.saturating_sub(TEXT_GAP).saturating_sub(height);
-    let base = top.saturating_sub(4);
-    pen.failed |= writeln!(
-        pen.text,
+    writeln!(
+        text,
         "<rect class=\"bar\" x=\"4\" y=\"{top}\" width=\"16\" height=\"{height}\"/>"
+    )?;
+    writeln!(
+        text,
+        "<text class=\"number\" x=\"{MIDDLE}\" y=\"{}\">{steps}</text>",
+        top.saturating_sub(4)
     )
-    .is_err();
-    pen.failed |= writeln!(
-        pen.text,
-        "<text class=\"number\" x=\"{MIDDLE}\" y=\"{base}\">{steps}</text>"
-    )
-    .is_err();
 }
 
 /// What each client is told, in a box of its colour.
-fn told_boxes(pen: &mut Pen, sizes: Sizes, told: &[Told]) {
-    let height = sizes.told.saturating_sub(4);
+fn told_boxes(
+    alloc: Global,
+    text: &mut String,
+    sizes: Sizes,
+    told: &[Told],
+) -> Result<(), AllocError> {
     let mut end = sizes.steps;
     for told in told {
         let top = end.saturating_add(2);
-        let class = colour(*told);
         end = end.saturating_add(sizes.told);
-        pen.failed |= writeln!(
-            pen.text,
-            "<rect class=\"{class}\" x=\"1\" y=\"{top}\" width=\"22\" height=\"{height}\" rx=\"4\"/>"
-        )
-        .is_err();
-        upright(pen, end, *told);
+        writeln!(
+            text,
+            "<rect class=\"{}\" x=\"1\" y=\"{top}\" width=\"22\" height=\"{}\" rx=\"4\"/>",
+            colour(*told),
+            sizes.told.saturating_sub(4)
+        )?;
+        let words = format!(in alloc; "{told}")?;
+        upright(text, end, words.as_str())?;
     }
+    Ok(())
 }
 
-/// A column: one point, after this act, or before the first one.
-fn column(pen: &mut Pen, sizes: Sizes, point: &Point, act: Option<Act>, evicted: usize) {
-    match act {
-        Some(act) => upright(pen, sizes.acts, Spelt(act)),
-        None => upright(pen, sizes.acts, "at first"),
-    }
-    let base = sizes.evictions.saturating_sub(NUMBER_GAP);
-    pen.failed |= writeln!(
-        pen.text,
-        "<text class=\"number faint\" x=\"{MIDDLE}\" y=\"{base}\">{evicted}</text>"
-    )
-    .is_err();
-    bar(pen, sizes, point.steps);
-    told_boxes(pen, sizes, tellings(point, sizes.clients));
-    let base = sizes.end.saturating_sub(CONTENT_GAP);
-    upright(pen, base, Held(&point.content));
+/// A column: one point, after this act.
+fn column(
+    alloc: Global,
+    text: &mut String,
+    sizes: Sizes,
+    point: &Point,
+    act: &str,
+    evicted: usize,
+) -> Result<(), AllocError> {
+    upright(text, sizes.acts, act)?;
+    writeln!(
+        text,
+        "<text class=\"number faint\" x=\"{MIDDLE}\" y=\"{}\">{evicted}</text>",
+        sizes.evictions.saturating_sub(NUMBER_GAP)
+    )?;
+    bar(text, sizes, point.steps)?;
+    told_boxes(alloc, text, sizes, tellings(point, sizes.clients))?;
+    let content = values(alloc, &point.content)?;
+    upright(
+        text,
+        sizes.end.saturating_sub(CONTENT_GAP),
+        content.as_str(),
+    )?;
     let ok = if point.ok { "ok" } else { "bad" };
-    let top = sizes.end.saturating_sub(TEXT_GAP);
-    pen.failed |= writeln!(
-        pen.text,
-        "<rect class=\"{ok}\" x=\"1\" y=\"{top}\" width=\"22\" height=\"6\"/>"
+    writeln!(
+        text,
+        "<rect class=\"{ok}\" x=\"1\" y=\"{}\" width=\"22\" height=\"6\"/>",
+        sizes.end.saturating_sub(TEXT_GAP)
     )
-    .is_err();
 }
 
 /// A label at the left, and a rule above it.
-fn label<T: fmt::Display + Drop>(pen: &mut Pen, width: u64, rule: u64, base: u64, what: T) {
-    pen.failed |= writeln!(
-        pen.text,
+fn label(
+    text: &mut String,
+    width: u64,
+    rule: u64,
+    base: u64,
+    what: &str,
+) -> Result<(), AllocError> {
+    writeln!(
+        text,
         "<line class=\"rule\" x1=\"0\" x2=\"{width}\" y1=\"{rule}\" y2=\"{rule}\"/>"
-    )
-    .is_err();
-    pen.failed |= writeln!(
-        pen.text,
+    )?;
+    writeln!(
+        text,
         "<text class=\"label\" x=\"0\" y=\"{base}\">{what}</text>"
     )
-    .is_err();
 }
 
 /// The labels of all parts.
-fn labels(pen: &mut Pen, sizes: Sizes, width: u64) {
+fn labels(alloc: Global, text: &mut String, sizes: Sizes, width: u64) -> Result<(), AllocError> {
     let base = sizes.acts.saturating_sub(TEXT_GAP);
-    label(pen, width, NUMBER_END, base, "crash after");
+    label(text, width, NUMBER_END, base, "crash after")?;
     let base = sizes.evictions.saturating_sub(NUMBER_GAP);
-    label(pen, width, sizes.acts, base, "words kept");
+    label(text, width, sizes.acts, base, "words kept")?;
     let base = sizes.steps.saturating_sub(TEXT_GAP);
-    label(pen, width, sizes.evictions, base, "recovery steps");
+    label(text, width, sizes.evictions, base, "recovery steps")?;
     let mut from = sizes.steps;
     for client in 0..sizes.clients {
         let end = from.saturating_add(sizes.told);
-        let base = end.saturating_sub(TEXT_GAP);
-        label(pen, width, from, base, ToldLabel(client));
+        let what = format!(in alloc; "client {client} is told")?;
+        label(
+            text,
+            width,
+            from,
+            end.saturating_sub(TEXT_GAP),
+            what.as_str(),
+        )?;
         from = end;
     }
-    let base = sizes.end.saturating_sub(CONTENT_GAP);
-    label(pen, width, sizes.contents, base, "content");
+    label(
+        text,
+        width,
+        sizes.contents,
+        sizes.end.saturating_sub(CONTENT_GAP),
+        "content",
+    )
 }
 
 /// What the page says before its picture.
-fn heading(pen: &mut Pen, setting: &Setting, report: &Report) {
-    let QueueLine {
-        kind,
-        clients,
-        records,
-    } = setting.queue;
-    let kind = match kind {
+fn heading(text: &mut String, setting: &Setting, report: &Report) -> Result<(), AllocError> {
+    let queue = setting.queue;
+    let kind = match queue.kind {
         Kind::Durable => "durable",
         Kind::Log => "log",
     };
-    pen.failed |= write!(pen.text, "<p>queue {kind} {clients} {records}; ").is_err();
+    write!(
+        text,
+        "<p>queue {kind} {} {}; ",
+        queue.clients, queue.records
+    )?;
     match setting.wanted.evictions {
-        Evictions::None => pen.say("no word kept before a crash"),
-        Evictions::All => pen.say("every word kept before a crash"),
-        Evictions::Drawn { state } => {
-            pen.failed |= write!(pen.text, "words drawn from {state} kept before a crash").is_err();
-        }
+        Evictions::None => write!(text, "no word kept before a crash")?,
+        Evictions::All => write!(text, "every word kept before a crash")?,
+        Evictions::Drawn { state } => write!(text, "words drawn from {state} kept before a crash")?,
     }
-    let points = report.points.len();
-    let bad = report.bad;
-    pen.failed |= writeln!(pen.text, "; points {points} bad {bad}</p>").is_err();
+    writeln!(
+        text,
+        "; points {} bad {}</p>",
+        report.points.len(),
+        report.bad
+    )
 }
 
 /// The act that the crash at a point came after.
-fn act_before(acts: &[Act], number: u64) -> Option<Act> {
-    acts.get((number as usize).wrapping_sub(1)).copied()
-}
-
-/// All columns.
-fn columns(pen: &mut Pen, sizes: Sizes, setting: &Setting, report: &Report) {
-    let mut left = LABELS_WIDTH;
-    for (place, point) in report.points.iter().enumerate() {
-        let number = setting.wanted.part.from.saturating_add(place as u64);
-        pen.failed |= writeln!(
-            pen.text,
-            "<g transform=\"translate({left},0)\">\n<text class=\"number\" x=\"{MIDDLE}\" y=\"12\">{number}</text>"
-        )
-        .is_err();
-        let act = act_before(&setting.acts, number);
-        let evicted = evicted_count(setting.wanted.evictions, setting.words, number);
-        column(pen, sizes, point, act, evicted);
-        pen.say("</g>\n");
-        left = left.saturating_add(COLUMN_WIDTH);
+fn act_before(alloc: Global, acts: &[Act], number: u64) -> Result<String, AllocError> {
+    match acts.get((number as usize).wrapping_sub(1)) {
+        Some(act) => format!(in alloc; "{}", Spelt(*act)),
+        None => String::from_str(alloc, "at first"),
     }
 }
 
+/// All columns.
+fn columns(
+    alloc: Global,
+    text: &mut String,
+    sizes: Sizes,
+    setting: &Setting,
+    report: &Report,
+) -> Result<(), AllocError> {
+    let mut left = LABELS_WIDTH;
+    for (place, point) in report.points.iter().enumerate() {
+        let number = setting.wanted.part.from.saturating_add(place as u64);
+        writeln!(text, "<g transform=\"translate({left},0)\">")?;
+        writeln!(
+            text,
+            "<text class=\"number\" x=\"{MIDDLE}\" y=\"12\">{number}</text>"
+        )?;
+        let act = act_before(alloc, &setting.acts, number)?;
+        let evicted = evicted_count(setting.wanted.evictions, setting.words, number);
+        column(alloc, text, sizes, point, act.as_str(), evicted)?;
+        writeln!(text, "</g>")?;
+        left = left.saturating_add(COLUMN_WIDTH);
+    }
+    Ok(())
+}
+
 /// Writes the whole page.
-fn write_page(pen: &mut Pen, sizes: Sizes, setting: &Setting, report: &Report) {
+fn write_page(
+    alloc: Global,
+    text: &mut String,
+    setting: &Setting,
+    report: &Report,
+) -> Result<(), AllocError> {
+    let sizes = sizes_of(alloc, setting, &report.points)?;
     let width = COLUMN_WIDTH
         .saturating_mul(report.points.len() as u64)
         .saturating_add(LABELS_WIDTH);
-    let height = sizes.end;
-    pen.say(HEAD);
-    heading(pen, setting, report);
-    pen.failed |= writeln!(
-        pen.text,
-        "<figure><svg width=\"{width}\" height=\"{height}\" viewBox=\"0 0 {width} {height}\" role=\"img\">"
-    )
-    .is_err();
-    labels(pen, sizes, width);
-    columns(pen, sizes, setting, report);
-    pen.say(FOOT);
+    write!(text, "{HEAD}")?;
+    heading(text, setting, report)?;
+    writeln!(
+        text,
+        "<figure><svg width=\"{width}\" height=\"{}\" viewBox=\"0 0 {width} {}\" role=\"img\">",
+        sizes.end, sizes.end
+    )?;
+    labels(alloc, text, sizes, width)?;
+    columns(alloc, text, sizes, setting, report)?;
+    write!(text, "{FOOT}")
 }
 
 /// The page of a report, or NoMemory.
 pub fn page(alloc: Global, setting: &Setting, report: &Report) -> Result<Vec<u8>, Refusal>
     ensures errors { IfErr result (λ e. e ≡ Refusal.NoMemory) }
 {
-    let Ok(sizes) = sizes_of(alloc, setting, &report.points) else {
-        return Err(Refusal::NoMemory);
-    };
-    let mut pen = Pen::new(alloc);
-    write_page(&mut pen, sizes, setting, report);
-    pen.written()
+    let mut text = String::new(alloc);
+    match write_page(alloc, &mut text, setting, report) {
+        Ok(()) => Ok(text.into_bytes()),
+        Err(_) => Err(Refusal::NoMemory),
+    }
 }

@@ -3,13 +3,12 @@
 ghost use Rattle.std.specs.Prelude.{◌≡◌, IfErr};
 
 use crate::frames::{Differs, Frame, frames};
-use crate::pen::Pen;
 use crate::pictures::Spelt;
 use grammar::{QueueLine, Script};
 use interleave::Act;
 use std::alloc::{AllocError, Global};
-use std::fmt::{self, Write};
-use words::{Call, Kind, Refusal, Reply};
+use std::fmt::Write;
+use words::{Call, Kind, Refusal};
 
 /// What the page says of itself, and how it is drawn, in light and in dark.
 const HEAD: &str = "<!DOCTYPE html>
@@ -72,13 +71,13 @@ const LANE_HEIGHT: u64 = 34;
 const WORD_HEIGHT: u64 = 26;
 
 /// A call of a client on the page: from its act up to that with which it ended.
-#[derive(Clone, Copy)]
+#[derive(Drop)]
 struct Bar {
     client: u64,
     from: u64,
     to: u64,
     call: Call,
-    answer: Option<Reply>,
+    answer: Option<String>,
 }
 
 /// Where the column of an act begins.
@@ -87,39 +86,50 @@ fn column(act: u64) -> u64 {
         .saturating_add(LABELS_WIDTH)
 }
 
-/// The end of a call that began at an act: the act, and the answer, if it was one.
-fn end_of(frames: &[Frame], from: usize, client: u8) -> (usize, Option<Reply>) {
+/// The end of a call that began at an act: the act, and whether it is an answer.
+fn end_of(frames: &[Frame], from: usize, client: u8) -> (usize, bool) {
     for number in from..frames.len() {
         match frames[number].act {
             Act::Step { client: other } => {
                 if other.0 == client && frames[number].reply.is_some() {
-                    return (number, frames[number].reply);
+                    return (number, true);
                 }
             }
-            Act::Crash => return (number, None),
+            Act::Crash => return (number, false),
             _ => {}
         }
     }
-    (frames.len(), None)
+    (frames.len(), false)
 }
 
 /// The call that begins with an act, if one does.
-fn bar_of(frames: &[Frame], from: usize) -> Option<Bar> {
-    let Act::Start { client, call, .. } = frames.get(from)?.act else {
-        return None;
+fn bar_of(alloc: Global, frames: &[Frame], from: usize) -> Result<Option<Bar>, AllocError> {
+    let Some(frame) = frames.get(from) else {
+        return Ok(None);
     };
-    let (to, answer) = end_of(frames, from, client.0);
-    Some(Bar {
+    let Act::Start { client, call, .. } = frame.act else {
+        return Ok(None);
+    };
+    let (to, is_answer) = end_of(frames, from, client.0);
+    let mut answer = None;
+    if let Some(frame) = frames.get(to) {
+        if let Some(reply) = frame.reply {
+            if is_answer {
+                answer = Some(format!(in alloc; "{reply}")?);
+            }
+        }
+    }
+    Ok(Some(Bar {
         client: u64::from(client.0),
         from: from as u64,
         to: to as u64,
         call,
         answer,
-    })
+    }))
 }
 
 /// A call in its client's lane.
-fn write_bar(pen: &mut Pen, bar: Bar) {
+fn write_bar(text: &mut String, bar: &Bar) -> Result<(), AllocError> {
     let top = lane_of(bar.client).saturating_add(5);
     let left = column(bar.from).saturating_add(1);
     let mut right = column(bar.to);
@@ -128,35 +138,36 @@ fn write_bar(pen: &mut Pen, bar: Bar) {
         right = right.saturating_add(COLUMN_WIDTH).saturating_sub(1);
         class = "done";
     }
-    let width = right.saturating_sub(left);
-    pen.failed |= writeln!(
-        pen.text,
-        "<rect class=\"{class}\" x=\"{left}\" y=\"{top}\" width=\"{width}\" height=\"24\" rx=\"4\"/>"
-    )
-    .is_err();
-    let x = left.saturating_add(4);
-    let y = top.saturating_add(16);
-    pen.failed |= write!(pen.text, "<text x=\"{x}\" y=\"{y}\">").is_err();
+    writeln!(
+        text,
+        "<rect class=\"{class}\" x=\"{left}\" y=\"{top}\" width=\"{}\" height=\"24\" rx=\"4\"/>",
+        right.saturating_sub(left)
+    )?;
+    write!(
+        text,
+        "<text x=\"{}\" y=\"{}\">",
+        left.saturating_add(4),
+        top.saturating_add(16)
+    )?;
     match bar.call {
-        Call::Enq(value) => pen.failed |= write!(pen.text, "enq {value}").is_err(),
-        Call::Deq => pen.say("deq"),
+        Call::Enq(value) => write!(text, "enq {value}")?,
+        Call::Deq => write!(text, "deq")?,
     }
-    if let Some(answer) = bar.answer {
-        pen.failed |= write!(pen.text, ": {answer}").is_err();
+    if let Some(answer) = &bar.answer {
+        write!(text, ": {answer}")?;
     }
-    pen.say("</text>\n");
+    writeln!(text, "</text>")
 }
 
 /// The name of an act, read from below, above its column, in a head that is so high.
-fn write_name(pen: &mut Pen, number: u64, act: Act, high: u64) {
+fn write_name(text: &mut String, number: u64, act: Act, high: u64) -> Result<(), AllocError> {
     let spelt = Spelt(act);
-    let x = column(number).saturating_add(21);
-    let y = high.saturating_sub(8);
-    pen.failed |= writeln!(
-        pen.text,
-        "<text class=\"faint\" transform=\"translate({x},{y}) rotate(-90)\">{spelt}</text>"
+    writeln!(
+        text,
+        "<text class=\"faint\" transform=\"translate({},{}) rotate(-90)\">{spelt}</text>",
+        column(number).saturating_add(21),
+        high.saturating_sub(8)
     )
-    .is_err();
 }
 
 /// How high the head is that holds the names of all acts.
@@ -173,33 +184,31 @@ fn head_of(alloc: Global, frames: &[Frame]) -> Result<u64, AllocError> {
 }
 
 /// A line across where everything stopped.
-fn write_crash(pen: &mut Pen, number: u64, end: u64) {
+fn write_crash(text: &mut String, number: u64, end: u64) -> Result<(), AllocError> {
     let x = column(number);
-    pen.failed |= writeln!(
-        pen.text,
-        "<line class=\"crash\" x1=\"{x}\" x2=\"{x}\" y1=\"{LANES_TOP}\" y2=\"{end}\"/>"
+    writeln!(
+        text,
+        "<line class=\"crash\" x1=\"{x}\" x2=\"{x}\" y1=\"{}\" y2=\"{end}\"/>",
+        LANES_TOP
     )
-    .is_err();
 }
 
 /// A rule from one place across to another.
-fn write_rule(pen: &mut Pen, from: u64, to: u64, top: u64) {
-    pen.failed |= writeln!(
-        pen.text,
+fn write_rule(text: &mut String, from: u64, to: u64, top: u64) -> Result<(), AllocError> {
+    writeln!(
+        text,
         "<line class=\"rule\" x1=\"{from}\" x2=\"{to}\" y1=\"{top}\" y2=\"{top}\"/>"
     )
-    .is_err();
 }
 
-/// A label at the left, of the client or of the word with this number, and a rule above it.
-fn write_label(pen: &mut Pen, top: u64, what: &str, number: u64) {
-    write_rule(pen, 0, LABELS_WIDTH, top);
-    let base = top.saturating_add(18);
-    pen.failed |= writeln!(
-        pen.text,
-        "<text class=\"label\" x=\"0\" y=\"{base}\">{what} {number}</text>"
+/// A label at the left, and a rule above it.
+fn write_label(text: &mut String, top: u64, what: &str) -> Result<(), AllocError> {
+    write_rule(text, 0, LABELS_WIDTH, top)?;
+    writeln!(
+        text,
+        "<text class=\"label\" x=\"0\" y=\"{}\">{what}</text>",
+        top.saturating_add(18)
     )
-    .is_err();
 }
 
 /// The words that ever differ, ascending.
@@ -225,66 +234,70 @@ fn row_of(words: &[u64], clients: u64, word: u64) -> u64 {
 }
 
 /// A value, or the last digits of one that is too long for its column.
-#[derive(Clone, Copy)]
-struct Brief(u64);
-
-impl fmt::Display for Brief {
-    fn fmt<W: fmt::Write>(&self, f: &mut fmt::Formatter<W>) -> fmt::Result {
-        if self.0 < 1_000_000 {
-            return write!(f, "{}", self.0);
-        }
-        write!(f, "…{:04}", self.0 % 10_000)
+fn brief(alloc: Global, value: u64) -> Result<String, AllocError> {
+    if value < 1_000_000 {
+        return format!(in alloc; "{value}");
     }
+    let last = value % 10_000;
+    format!(in alloc; "…{last:04}")
 }
 
 /// A word at an act: its cached value, and its kept one below.
-fn write_word(pen: &mut Pen, number: u64, top: u64, differs: Differs, class: &str) {
+fn write_word(
+    alloc: Global,
+    text: &mut String,
+    number: u64,
+    top: u64,
+    differs: Differs,
+    class: &str,
+) -> Result<(), AllocError> {
     let left = column(number);
     let middle = left.saturating_add(COLUMN_WIDTH / 2);
-    let Differs { word, cached, kept } = differs;
-    pen.failed |= writeln!(
-        pen.text,
+    let word = differs.word;
+    let cached = differs.cached;
+    let kept = differs.kept;
+    writeln!(
+        text,
         "<g><title>word {word}: cached {cached}, kept {kept}</title>"
+    )?;
+    let cached = brief(alloc, cached)?;
+    let kept = brief(alloc, kept)?;
+    writeln!(
+        text,
+        "<rect class=\"{class}\" x=\"{left}\" y=\"{}\" width=\"{COLUMN_WIDTH}\" height=\"24\"/>",
+        top.saturating_add(1)
+    )?;
+    writeln!(
+        text,
+        "<text class=\"small\" x=\"{middle}\" y=\"{}\">{cached}</text>",
+        top.saturating_add(11)
+    )?;
+    writeln!(
+        text,
+        "<text class=\"small faint\" x=\"{middle}\" y=\"{}\">{kept}</text></g>",
+        top.saturating_add(22)
     )
-    .is_err();
-    let y = top.saturating_add(1);
-    pen.failed |= writeln!(
-        pen.text,
-        "<rect class=\"{class}\" x=\"{left}\" y=\"{y}\" width=\"{COLUMN_WIDTH}\" height=\"24\"/>"
-    )
-    .is_err();
-    let cached = Brief(cached);
-    let y = top.saturating_add(11);
-    pen.failed |= writeln!(
-        pen.text,
-        "<text class=\"small\" x=\"{middle}\" y=\"{y}\">{cached}</text>"
-    )
-    .is_err();
-    let kept = Brief(kept);
-    let y = top.saturating_add(22);
-    pen.failed |= writeln!(
-        pen.text,
-        "<text class=\"small faint\" x=\"{middle}\" y=\"{y}\">{kept}</text></g>"
-    )
-    .is_err();
 }
 
-/// What is drawn: the frames, the words, how many clients there are, how high the head is that holds the names of all
-/// acts, and how far right and down the picture ends.
+/// What is drawn: the frames, the words, how many clients there are, and how far right and down the picture ends.
 #[derive(Clone, Copy)]
 struct Picture<'a> {
     frames: &'a [Frame],
     words: &'a [u64],
     clients: u64,
-    head: u64,
     width: u64,
     end: u64,
 }
 
 /// The words that differ after an act; at a crash those that differed before it, which it took away.
-fn write_words(pen: &mut Pen, picture: &Picture<'_>, number: usize) {
+fn write_words(
+    alloc: Global,
+    text: &mut String,
+    picture: &Picture<'_>,
+    number: usize,
+) -> Result<(), AllocError> {
     let Some(frame) = picture.frames.get(number) else {
-        return;
+        return Ok(());
     };
     let mut shown = frame;
     let mut class = "differs";
@@ -296,8 +309,9 @@ fn write_words(pen: &mut Pen, picture: &Picture<'_>, number: usize) {
     }
     for differs in &shown.differs {
         let top = row_of(picture.words, picture.clients, differs.word);
-        write_word(pen, number as u64, top, *differs, class);
+        write_word(alloc, text, number as u64, top, *differs, class)?;
     }
+    Ok(())
 }
 
 /// Where the lane of a client begins.
@@ -305,133 +319,113 @@ fn lane_of(client: u64) -> u64 {
     client.saturating_mul(LANE_HEIGHT).saturating_add(LANES_TOP)
 }
 
-/// The labels of words.
-fn write_word_labels(pen: &mut Pen, picture: &Picture<'_>) {
-    for word in picture.words {
-        let top = row_of(picture.words, picture.clients, *word);
-        write_label(pen, top, "word", *word);
-    }
-}
-
 /// The labels of lanes and of words.
-fn write_labels(pen: &mut Pen, picture: &Picture<'_>) {
+fn write_labels(alloc: Global, text: &mut String, picture: &Picture<'_>) -> Result<(), AllocError> {
     for client in 0..picture.clients {
-        write_label(pen, lane_of(client), "client", client);
+        let what = format!(in alloc; "client {client}")?;
+        write_label(text, lane_of(client), what.as_str())?;
     }
-    write_word_labels(pen, picture);
-}
-
-/// The rules above words.
-fn write_word_rules(pen: &mut Pen, picture: &Picture<'_>) {
     for word in picture.words {
+        let what = format!(in alloc; "word {word}")?;
         let top = row_of(picture.words, picture.clients, *word);
-        write_rule(pen, LABELS_WIDTH, picture.width, top);
+        write_label(text, top, what.as_str())?;
     }
+    Ok(())
 }
 
 /// The rules above lanes and words.
-fn write_rules(pen: &mut Pen, picture: &Picture<'_>) {
+fn write_rules(text: &mut String, picture: &Picture<'_>) -> Result<(), AllocError> {
     for client in 0..picture.clients {
-        write_rule(pen, LABELS_WIDTH, picture.width, lane_of(client));
+        write_rule(text, LABELS_WIDTH, picture.width, lane_of(client))?;
     }
-    write_word_rules(pen, picture);
+    for word in picture.words {
+        let top = row_of(picture.words, picture.clients, *word);
+        write_rule(text, LABELS_WIDTH, picture.width, top)?;
+    }
+    Ok(())
 }
 
 /// All acts.
-fn write_acts(pen: &mut Pen, picture: &Picture<'_>) {
+fn write_acts(alloc: Global, text: &mut String, picture: &Picture<'_>) -> Result<(), AllocError> {
     for number in 0..picture.frames.len() {
-        write_words(pen, picture, number);
-        if let Some(bar) = bar_of(picture.frames, number) {
-            write_bar(pen, bar);
+        write_words(alloc, text, picture, number)?;
+        if let Some(bar) = bar_of(alloc, picture.frames, number)? {
+            write_bar(text, &bar)?;
         }
         if picture.frames[number].act == Act::Crash {
-            write_crash(pen, number as u64, picture.end);
+            write_crash(text, number as u64, picture.end)?;
         }
     }
+    Ok(())
 }
 
 /// The names of the acts, which stay where they are while the rest is scrolled down.
-fn write_head(pen: &mut Pen, picture: &Picture<'_>) {
+fn write_head(alloc: Global, text: &mut String, picture: &Picture<'_>) -> Result<(), AllocError> {
     let wide = picture.width.saturating_sub(LABELS_WIDTH);
-    let high = picture.head;
-    pen.failed |= writeln!(
-        pen.text,
+    let high = head_of(alloc, picture.frames)?;
+    writeln!(
+        text,
         "<figure><div class=\"row heads\"><svg class=\"names\" width=\"{LABELS_WIDTH}\" height=\"{high}\"></svg>"
-    )
-    .is_err();
-    pen.failed |= writeln!(
-        pen.text,
+    )?;
+    writeln!(
+        text,
         "<svg width=\"{wide}\" height=\"{high}\" viewBox=\"{LABELS_WIDTH} 0 {wide} {high}\">"
-    )
-    .is_err();
+    )?;
     for number in 0..picture.frames.len() {
-        write_name(pen, number as u64, picture.frames[number].act, high);
+        write_name(text, number as u64, picture.frames[number].act, high)?;
     }
-    pen.say("</svg></div>\n");
+    writeln!(text, "</svg></div>")
 }
 
 /// The labels, which stay where they are while the rest is scrolled to the left, and beside them the lanes and words.
-fn write_body(pen: &mut Pen, picture: &Picture<'_>) {
+fn write_body(alloc: Global, text: &mut String, picture: &Picture<'_>) -> Result<(), AllocError> {
     let wide = picture.width.saturating_sub(LABELS_WIDTH);
     let high = picture.end;
-    pen.failed |= writeln!(
-        pen.text,
+    writeln!(
+        text,
         "<div class=\"row\"><svg class=\"names\" width=\"{LABELS_WIDTH}\" height=\"{high}\""
-    )
-    .is_err();
-    pen.failed |= writeln!(pen.text, " viewBox=\"0 0 {LABELS_WIDTH} {high}\">").is_err();
-    write_labels(pen, picture);
-    pen.failed |= writeln!(
-        pen.text,
-        "</svg>\n<svg width=\"{wide}\" height=\"{high}\" viewBox=\"{LABELS_WIDTH} 0 {wide} {high}\" role=\"img\">"
-    )
-    .is_err();
-    write_rules(pen, picture);
-    write_acts(pen, picture);
+    )?;
+    writeln!(text, " viewBox=\"0 0 {LABELS_WIDTH} {high}\">")?;
+    write_labels(alloc, text, picture)?;
+    writeln!(text, "</svg>")?;
+    writeln!(
+        text,
+        "<svg width=\"{wide}\" height=\"{high}\" viewBox=\"{LABELS_WIDTH} 0 {wide} {high}\" role=\"img\">"
+    )?;
+    write_rules(text, picture)?;
+    write_acts(alloc, text, picture)
 }
 
 /// The whole page.
-fn write_page(pen: &mut Pen, queue: QueueLine, picture: &Picture<'_>) {
+fn write_page(
+    alloc: Global,
+    text: &mut String,
+    queue: QueueLine,
+    frames: &[Frame],
+) -> Result<(), AllocError> {
+    let words = words_of(alloc, frames)?;
+    let clients = u64::from(queue.clients);
     let kind = match queue.kind {
         Kind::Durable => "durable",
         Kind::Log => "log",
     };
-    let QueueLine {
-        clients,
-        records,
-        ..
-    } = queue;
-    let count = picture.frames.len();
-    pen.say(HEAD);
-    pen.failed |= writeln!(
-        pen.text,
-        "<p>queue {kind} {clients} {records}; acts {count}</p>"
-    )
-    .is_err();
-    write_head(pen, picture);
-    write_body(pen, picture);
-    pen.say(FOOT);
-}
-
-/// The page of these frames, or NoMemory.
-fn page_of(alloc: Global, queue: QueueLine, frames: &[Frame]) -> Result<Vec<u8>, Refusal>
-    ensures errors { IfErr result (λ e. e ≡ Refusal.NoMemory) }
-{
-    let (Ok(words), Ok(head)) = (words_of(alloc, frames), head_of(alloc, frames)) else {
-        return Err(Refusal::NoMemory);
-    };
-    let clients = u64::from(queue.clients);
+    let count = frames.len();
     let picture = Picture {
         frames,
         words: &words,
         clients,
-        head,
-        width: column(frames.len() as u64).saturating_add(1),
+        width: column(count as u64).saturating_add(1),
         end: row_of(&words, clients, u64::MAX).saturating_add(2),
     };
-    let mut pen = Pen::new(alloc);
-    write_page(&mut pen, queue, &picture);
-    pen.written()
+    write!(text, "{HEAD}")?;
+    writeln!(
+        text,
+        "<p>queue {kind} {} {}; acts {count}</p>",
+        queue.clients, queue.records
+    )?;
+    write_head(alloc, text, &picture)?;
+    write_body(alloc, text, &picture)?;
+    write!(text, "{FOOT}")
 }
 
 /// The page of a script's run, empty where the script has no queue; or NoMemory.
@@ -442,5 +436,9 @@ pub fn story(alloc: Global, script: &Script) -> Result<Vec<u8>, Refusal>
         return Ok(Vec::new(alloc));
     };
     let frames = frames(alloc, queue, script.commands())?;
-    page_of(alloc, queue, &frames)
+    let mut text = String::new(alloc);
+    match write_page(alloc, &mut text, queue, &frames) {
+        Ok(()) => Ok(text.into_bytes()),
+        Err(_) => Err(Refusal::NoMemory),
+    }
 }
