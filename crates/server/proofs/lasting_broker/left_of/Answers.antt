@@ -3,15 +3,15 @@ use Rattle.lasting.specs.Lasting.{EndsAtMomentOf}
 use Rattle.server.proofs.Lefts.{left_after, on_ok}
 use Rattle.server.proofs.lasting_broker.left_of.Goals as goal
 
-pub returns-in-Ok-to_image : goal.returns-in-Ok-to_image
-returns-in-Ok-to_image g c =
+pub returns-in-Ok : goal.returns-in-Ok
+returns-in-Ok g c =
     let closed = c.close-session.ensures in
-    let image = c.in-Ok-to_image.ensures in
+    let image = c.in-Ok.ensures in
     let words : c.close-session.result.1.words ≡ c.close-session.result.0.broker.words.kept = search rules in
     let ends : EndsAtMomentOf g.J.Naming.first c.close-session.result.0 c.close-session.result.1 =
     on_ok (EndsAtMomentOf g.J.Naming.first c.close-session.result.0 c.close-session.result.1) c.close-session.result.2
     (sym c.is_err.ensures.value ∙ c.if-is_err.false) closed.ends in
     let kept : c.close-session.result.1.kept ≡ c.close-session.result.1.size = search rules in
-    left_after _ _ g.J.Naming.first c.close-session.result.0 c.broker.result.now c.in-Ok-to_image.image.items c.close-session.result.1
+    left_after _ _ g.J.Naming.first c.close-session.result.0 c.broker.result.now c.in-Ok.image.items c.close-session.result.1
     c.broker.ensures.broker closed.lists closed.goes_on closed.promises image.image image.read image.boots words kept
     ends
