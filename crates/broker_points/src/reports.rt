@@ -8,8 +8,9 @@ ghost use Rattle.broker_points.specs.Sweep.{report_on, text_of, AreOk};
 
 use crate::point::Point;
 use crate::sweep::{Schedule, all_points};
+use broker_acts::accepted_acts;
 use broker_lines::{BrokerLine, Statement};
-use broker_script::{Player, Script, accepted_acts};
+use broker_script::{Player, Script};
 use explore::{Evictions, Watch};
 use std::alloc::Global;
 use std::fmt::Write;

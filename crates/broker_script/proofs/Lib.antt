@@ -2,7 +2,6 @@ mod Worlds
 mod Created
 mod Acted
 mod Staying
-mod Making
 mod Going
 mod SameWords
 mod PutOffs
@@ -10,6 +9,4 @@ mod Asked
 mod Again
 mod Printing
 mod Imaged
-mod Said
-mod Plainly
 pub mod Facts

@@ -8,8 +8,5 @@ pub mod Asking
 pub mod Imaging
 pub mod Renewing
 pub mod Transcript
-pub mod Plain
 pub mod Standing
-pub mod Acts
-pub mod Made
 pub mod Run

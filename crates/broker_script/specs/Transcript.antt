@@ -136,6 +136,11 @@ FollowsLine old (On name command) lines new = FollowsOn old name command lines n
 FollowsLine old (Told name client) lines new = Tells old name client lines new
 FollowsLine old (Asks name ask) lines new = FollowsAsk old name ask lines new
 
+-- this line was followed, and what it gave was added
+abbrev pub AddsGiven : Statement → Played → List Printed → List Printed → Played → Type 0
+AddsGiven statement old before after new =
+    (given : List Printed) × FollowsLine old statement given new × (after ≡ before ++ given)
+
 -- some lines, one after the other. Where one was put off for want of memory, and `again` comes after it, a line says
 -- so, and it is made again
 pub data FollowsAll : Played → List Statement → List Printed → Type 0 where

@@ -15,8 +15,8 @@ use playing::{Line, Unfollowed};
 use std::alloc::Global;
 use words::{Call, Client, Refusal, Reply};
 
-/// Who asks.
-pub(crate) fn asker(ask: &Ask) -> Client
+/// The client that asks.
+pub fn asker(ask: &Ask) -> Client
     ensures { result ≡ asker ask.now }
 {
     match ask {

@@ -10,9 +10,8 @@ ghost use Rattle.broker_script.specs.Imaging.{boot_line, digest_of, Boots, Image
 ghost use Rattle.broker_script.specs.Play.{new_played};
 ghost use Rattle.broker_script.specs.PutOff.{PutsOff};
 
-use crate::acts::push;
 use crate::player::{Player, no_steps};
-use broker_lines::{Printed, Room, refused};
+use broker_lines::{Printed, Room, push, refused};
 use named::Broker;
 use persist::{KeptWords, Memory};
 use playing::{Line, Unfollowed};

@@ -1,12 +1,10 @@
 //! Scripts of a whole broker: the script that a text says, and what a broker prints that follows it.
 #![tactic(auto)]
 
-mod acts;
 mod asking;
 mod calling;
 mod creating;
 mod imaging;
-mod laws;
 mod parser;
 mod play;
 mod player;
@@ -16,8 +14,7 @@ mod running;
 mod script;
 mod whole;
 
-pub use acts::accepted_acts;
-pub use laws::{no_refusal_without_again, refusals_alone_differ};
+pub use asking::asker;
 pub use parser::parse_script;
 pub use play::transcript;
 pub use player::Player;

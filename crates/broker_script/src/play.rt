@@ -4,17 +4,15 @@ ghost use Rattle.std.specs.Prelude.{◌≡◌, ◌++◌, ◌∷◌, [], Ok, IfOk
 ghost use Rattle.broker_lines.specs.Grammar.{counts_by, IsServedBroker};
 ghost use Rattle.broker_lines.specs.Lines.{no_memory};
 ghost use Rattle.broker_lines.specs.declared.statements.Statement.{Statement};
-ghost use Rattle.broker_script.specs.Made.{AddsGiven};
 ghost use Rattle.broker_script.specs.Play.{new_played};
 ghost use Rattle.broker_script.specs.PutOff.{IsPutOff};
-ghost use Rattle.broker_script.specs.Transcript.{AreLinesOf, FollowsAll, IsPlayedOn, IsTranscript};
+ghost use Rattle.broker_script.specs.Transcript.{AddsGiven, AreLinesOf, FollowsAll, IsPlayedOn, IsTranscript};
 ghost use Rattle.grammar.specs.declared.commands.Command.{Command};
 
-use crate::acts::push;
 use crate::player::Player;
 use crate::script::Script;
 use arena::BrokerLayout;
-use broker_lines::{BrokerLine, Printed, Statement, append, one, text};
+use broker_lines::{BrokerLine, Printed, Statement, append, one, push, text};
 use grammar::Command;
 use playing::{Line, Unfollowed, line_to_make};
 use std::alloc::Global;

@@ -1,7 +1,7 @@
 use Rattle.std.proofs.Common.{ap, sym}
 use Rattle.playing.specs.Play.{most_alone}
-use Rattle.broker_script.specs.Acts.{most_recovery, times_of}
-use Rattle.broker_script.proofs.acts.times_of.Goals as goal
+use Rattle.broker_acts.specs.Acts.{most_recovery, times_of}
+use Rattle.broker_acts.proofs.acts.times_of.Goals as goal
 
 pub returns-in-End : goal.returns-in-End
 unfolding most_alone

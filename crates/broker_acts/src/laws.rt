@@ -4,8 +4,8 @@ ghost use Rattle.std.specs.Prelude.{◌≡◌, List, Option};
 ghost use Rattle.broker_lines.specs.declared.printed.Printed.{Printed};
 ghost use Rattle.broker_lines.specs.declared.statements.BrokerLine.{BrokerLine};
 ghost use Rattle.broker_lines.specs.declared.statements.Statement.{Statement};
-ghost use Rattle.broker_script.specs.Plain.{without_refusals, ArePlainButForRefusals, HasNoAgain};
 ghost use Rattle.broker_script.specs.Transcript.{AreLinesOf};
+ghost use Rattle.broker_acts.specs.Plain.{without_refusals, ArePlainButForRefusals, HasNoAgain};
 
 /// A transcript without its lines that say that memory was refused is one of the script without its lines `again`, of
 /// which no line is put off.

@@ -12,12 +12,12 @@ use Rattle.broker_lines.specs.declared.printed.Printed.TheVariants.{Whole as who
 use Rattle.broker_lines.specs.declared.statements.BrokerLine.{BrokerLine}
 use Rattle.broker_lines.specs.declared.statements.Statement.{Statement}
 use Rattle.broker_lines.specs.declared.statements.Statement.TheVariants.{Whole}
-use Rattle.broker_script.specs.Plain.{is_answer, without_again, without_refusals, ArePlainLinesOf, FollowsPlainly, all_followed, next_line}
 use Rattle.broker_script.specs.Play.{Played}
 use Rattle.broker_script.specs.PutOff.{IsAsBefore, IsPutOff}
 use Rattle.broker_script.specs.Transcript.{AreLinesOf, FollowsAll, FollowsLine, none, more, made_again}
-use Rattle.broker_script.proofs.PutOffs.{nothing_made}
-use Rattle.broker_script.proofs.Said.{all_left, both_said, line_said, none_said, AreSaid}
+use Rattle.broker_acts.specs.Plain.{is_answer, without_again, without_refusals, ArePlainLinesOf, FollowsPlainly, all_followed, next_line}
+use Rattle.broker_script.proofs.Facts.{nothing_made}
+use Rattle.broker_acts.proofs.Said.{all_left, both_said, line_said, none_said, AreSaid}
 
 -- as before, and as before that
 as_before_that : (a b c : Brokered) → IsAsBefore a b → IsAsBefore b c → IsAsBefore a c

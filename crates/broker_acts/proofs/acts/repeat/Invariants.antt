@@ -1,6 +1,6 @@
 use Rattle.std.proofs.Common.{◌-◌, replicate}
-use Rattle.broker_script.proofs.Making.{AttemptsLead}
-use Rattle.broker_script.proofs.acts.repeat.Given as goal
+use Rattle.broker_acts.proofs.Making.{AttemptsLead}
+use Rattle.broker_acts.proofs.acts.repeat.Given as goal
 
 -- what is left of the attempts adds what all of them add
 abbrev pub invariant-loop : goal.invariant-loop

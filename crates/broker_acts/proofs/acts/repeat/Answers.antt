@@ -2,9 +2,9 @@ use Rattle.std.proofs.Common.{◌≡◌, ◌-◌, ◌+◌, ◌<◌, ◌∷◌, �
 use Rattle.std.specs.Prelude.{Bool}
 use Rattle.broker_lines.specs.declared.statements.Statement.{Statement}
 use Rattle.broker_script.specs.Play.{Played}
-use Rattle.broker_script.specs.Acts.{IsAttempted}
-use Rattle.broker_script.proofs.Making.{attempts_start, attempts_more, attempts_refused, attempts_end, AttemptsLead}
-use Rattle.broker_script.proofs.acts.repeat.Goals as goal
+use Rattle.broker_acts.specs.Acts.{IsAttempted}
+use Rattle.broker_acts.proofs.Making.{attempts_start, attempts_more, attempts_refused, attempts_end, AttemptsLead}
+use Rattle.broker_acts.proofs.acts.repeat.Goals as goal
 
 -- one of them, and those that are left after it
 split : (most done : ℕ) (old now : Played) (all before so_far : List Statement) (act : Statement) → done < most

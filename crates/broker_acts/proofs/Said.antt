@@ -33,11 +33,11 @@ use Rattle.broker_script.specs.Asking.{answer_line, begun_line, FollowsAsked}
 use Rattle.broker_script.specs.Creating.{Creates, IsBegunOn, IsCreationAnswered, stays, opens, ends, goes_on}
 use Rattle.broker_script.specs.Imaging.{boot_line, IsNotBooted}
 use Rattle.broker_script.specs.OnQueue.{found_line, Follows, FollowsPlaced, IsRefusedOn}
-use Rattle.broker_script.specs.Plain.{is_answer, without_refusals}
 use Rattle.broker_script.specs.Play.{Played}
 use Rattle.broker_script.specs.Recovering.{ready_lines, told_below, told_in_slot, Recovers, RecoversBy, IsRecoveredOn, ready, ends_ready, goes_on_ready, stays_by, ready_by, ends_by, goes_on_by}
 use Rattle.broker_script.specs.Renewing.{renew_line, IsNotRenewed, RenewsPlaced}
 use Rattle.broker_script.specs.Transcript.{place_lines, places_below, places_of, rotate_line, FollowsLine, FollowsWhole}
+use Rattle.broker_acts.specs.Plain.{is_answer, without_refusals}
 
 -- none of some lines does
 pub AreSaid : List Printed → Type 0

@@ -2,8 +2,8 @@ use Rattle.std.proofs.Common.{◌≡◌, ◌+◌, ◌∷◌, ℕ, suc, List, get
 use Rattle.std.proofs.Math.Seq.{drop-cons}
 use Rattle.std.proofs.lemmas.List.{drop_all}
 use Rattle.broker_lines.specs.declared.statements.Statement.{Statement}
-use Rattle.broker_script.proofs.Making.{acts_more, acts_end, ActsLead}
-use Rattle.broker_script.proofs.acts.accepted_acts.Goals as goal
+use Rattle.broker_acts.proofs.Making.{acts_more, acts_end, ActsLead}
+use Rattle.broker_acts.proofs.acts.accepted_acts.Goals as goal
 
 pub loop-statement-preserved : goal.loop-statement-preserved
 loop-statement-preserved c =

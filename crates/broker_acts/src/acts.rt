@@ -3,12 +3,11 @@
 ghost use Rattle.std.specs.Prelude.{◌≡◌, ◌++◌, ◌∷◌, [], Some, OnOk, IfOk, IfErr, List, not, replicate};
 ghost use Rattle.broker_lines.specs.declared.statements.Statement.{Statement};
 ghost use Rattle.broker_script.specs.Play.{Played, new_played};
-ghost use Rattle.broker_script.specs.Acts.{act_of, beginning, plain_command, steps_of, is_refusal, is_refused, most_recovery, says_refused, times_of, AreActsOf, Attempts, IsAttempted};
-ghost use Rattle.broker_script.specs.Made.{Adds, AddsActsOf, AddsAsked, AddsBegun, AddsCreation};
+ghost use Rattle.broker_acts.specs.Acts.{act_of, beginning, plain_command, steps_of, is_refusal, is_refused, most_recovery, says_refused, times_of, AreActsOf, Attempts, IsAttempted};
+ghost use Rattle.broker_acts.specs.Made.{Adds, AddsActsOf, AddsAsked, AddsBegun, AddsCreation};
 
-use crate::asking::asker;
-use crate::player::Player;
-use broker_lines::{Ask, Printed, Statement};
+use broker_lines::{Ask, Printed, Statement, push};
+use broker_script::{Player, asker};
 use directory::{CREATION_STEPS, Name};
 use grammar::Command;
 use playing::Line;
@@ -53,14 +52,6 @@ fn attempt(alloc: Global, player: &mut Player, act: &Statement) -> Result<bool, 
         Ok(lines) => Ok(!is_refused(&lines)),
         Err(_) => Err(Refusal::NoMemory),
     }
-}
-
-/// Adds an item.
-pub(crate) fn push<T: Drop>(items: &mut Vec<T>, item: T) -> Result<(), Refusal>
-    ensures items { OnOk result (items.new.items ≡ items.old.items ++ item ∷ []) }
-    ensures errors { IfErr result (λ e. e ≡ Refusal.NoMemory) }
-{
-    items.push(item).map_err(|_| Refusal::NoMemory)
 }
 
 /// Adds a line.

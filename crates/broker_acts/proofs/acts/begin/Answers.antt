@@ -3,9 +3,9 @@ use Rattle.std.proofs.lemmas.Result.{on_ok_weaker}
 use Rattle.std.specs.Prelude.{Bool}
 use Rattle.broker_lines.specs.declared.statements.Statement.{Statement}
 use Rattle.broker_script.specs.Play.{Played}
-use Rattle.broker_script.specs.Acts.{IsAttempted}
-use Rattle.broker_script.proofs.Making.{first_refused, first_then}
-use Rattle.broker_script.proofs.acts.begin.Goals as goal
+use Rattle.broker_acts.specs.Acts.{IsAttempted}
+use Rattle.broker_acts.proofs.Making.{first_refused, first_then}
+use Rattle.broker_acts.proofs.acts.begin.Goals as goal
 
 answered : (old new : Played) (act : Statement) (b c : Bool) → b ≡ c → IsAttempted old act b new → IsAttempted old act c new
 answered old new act b c is attempt = subst (λ (x : Bool). IsAttempted old act x new) is attempt

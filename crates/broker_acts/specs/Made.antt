@@ -1,13 +1,11 @@
--- Acts that are added to a list as they are accepted, and lines as they are given.
+-- Acts that are added to a list as they are accepted.
 use Rattle.std.specs.Prelude.{◌≡◌, ℕ, List, ◌∷◌, ◌++◌, replicate}
 use Rattle.words.specs.declared.call.Kind.{Kind}
 use Rattle.broker_lines.specs.declared.statements.Ask.{Ask}
 use Rattle.broker_lines.specs.declared.statements.Statement.{Statement}
 use Rattle.broker_lines.specs.declared.statements.Statement.TheVariants.{BeginCreation, Asks}
-use Rattle.broker_lines.specs.declared.printed.Printed.{Printed}
 use Rattle.broker_script.specs.Play.{Played}
-use Rattle.broker_script.specs.Acts.{Attempts, attempts_of}
-use Rattle.broker_script.specs.Transcript.{FollowsLine}
+use Rattle.broker_acts.specs.Acts.{Attempts, attempts_of}
 
 -- these were attempted, and those that were accepted added to a list
 pub record Adds (old : Played) (attempts before after : List Statement) (new : Played) : Type 0 where
@@ -29,8 +27,3 @@ AddsCreation name kind most old before after new = AddsActsOf (BeginCreation nam
 
 abbrev pub AddsAsked : List ℕ → Ask → Played → List Statement → List Statement → Played → Type 0
 AddsAsked name ask old before after new = AddsActsOf (Asks name ask) old before after new
-
--- this line was followed, and what it gave was added
-abbrev pub AddsGiven : Statement → Played → List Printed → List Printed → Played → Type 0
-AddsGiven statement old before after new =
-    (given : List Printed) × FollowsLine old statement given new × (after ≡ before ++ given)

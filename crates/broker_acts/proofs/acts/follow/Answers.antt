@@ -4,9 +4,9 @@ use Rattle.words.specs.declared.call.Client.{Client}
 use Rattle.broker_lines.specs.declared.statements.Statement.{Statement}
 use Rattle.broker_lines.specs.declared.statements.Statement.TheVariants.{Find, List as list_queues, Told}
 use Rattle.broker_script.specs.Play.{Played}
-use Rattle.broker_script.specs.Acts.{attempts_of, all_made}
-use Rattle.broker_script.specs.Made.{Adds}
-use Rattle.broker_script.proofs.acts.follow.Goals as goal
+use Rattle.broker_acts.specs.Acts.{attempts_of, all_made}
+use Rattle.broker_acts.specs.Made.{Adds}
+use Rattle.broker_acts.proofs.acts.follow.Goals as goal
 
 -- a line that only shows something attempts nothing
 shows : (s : Statement)

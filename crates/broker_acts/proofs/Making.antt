@@ -3,8 +3,8 @@ use Rattle.std.proofs.Common.{◌≡◌, refl, sym, ap, ◌∙◌, subst, List, 
 use Rattle.std.proofs.lemmas.List.{append-nil}
 use Rattle.broker_lines.specs.declared.statements.Statement.{Statement}
 use Rattle.broker_script.specs.Play.{Played}
-use Rattle.broker_script.specs.Acts.{attempts_of, AreActsOf, Attempts, IsAttempted, all_made, ends_at, goes_on, no_line, line}
-use Rattle.broker_script.specs.Made.{Adds}
+use Rattle.broker_acts.specs.Acts.{attempts_of, AreActsOf, Attempts, IsAttempted, all_made, ends_at, goes_on, no_line, line}
+use Rattle.broker_acts.specs.Made.{Adds}
 
 pub record AttemptsLead (old : Played) (all before : List Statement) (now : Played) (left so_far : List Statement)
     : Type 0 where

@@ -1,7 +1,7 @@
 use Rattle.std.proofs.Common.{ap, sym}
 use Rattle.playing.specs.Play.{most_alone}
-use Rattle.broker_script.specs.Acts.{steps_of}
-use Rattle.broker_script.proofs.acts.steps_of.Goals as goal
+use Rattle.broker_acts.specs.Acts.{steps_of}
+use Rattle.broker_acts.proofs.acts.steps_of.Goals as goal
 
 pub returns-in-Request : goal.returns-in-Request
 unfolding most_alone

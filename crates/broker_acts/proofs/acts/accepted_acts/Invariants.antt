@@ -1,6 +1,6 @@
 use Rattle.std.proofs.Common.{drop}
-use Rattle.broker_script.proofs.Making.{ActsLead}
-use Rattle.broker_script.proofs.acts.accepted_acts.Given as goal
+use Rattle.broker_acts.proofs.Making.{ActsLead}
+use Rattle.broker_acts.proofs.acts.accepted_acts.Given as goal
 
 -- the acts so far, and those of the lines that are left, are all
 abbrev pub invariant-loop-statement : goal.invariant-loop-statement
