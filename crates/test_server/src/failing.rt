@@ -21,7 +21,7 @@ use std::sync::Wait;
 use std::test::*;
 use wire::{Answer, Request};
 use words::Refusal;
-use workers::{Naming, Opened};
+use workers::{Naming, Opened, Shared};
 
 /// How many bytes the story's requests have, and its replies.
 const REQUEST_BYTES: usize = 663;
@@ -124,6 +124,31 @@ impl<J: Naming> Desk for CountingDesk<'_, J> {
 }
 
 /// Serves the input by a desk that counts.
+fn exchanged_at<J: Naming, T: Wait>(
+    rt: &T,
+    alloc: Global,
+    shared: &Shared<J>,
+    seats: &Seating<J>,
+    input: &[u8],
+    limits: Limits,
+) -> Result<Exchange, Fail> {
+    let mut desk = CountingDesk {
+        desk: BrokerDesk::new(alloc, shared, seats)?,
+        made: 0,
+        settles: limits.settled,
+        unsettled: 0,
+    };
+    let mut reader = SlowReader::new(input, limits.each, limits.readable);
+    let mut writer = SlowWriter::new(alloc, limits.each, limits.writable);
+    let end = serve::<T, JsonLines, _, _, _>(rt, alloc, &mut reader, &mut writer, &mut desk);
+    Ok(Exchange {
+        end,
+        written: writer.into_written(),
+        made: desk.made,
+    })
+}
+
+/// The same, once the broker has its name.
 fn exchanged<J: Naming, T: Wait>(
     rt: &T,
     alloc: Global,
@@ -137,21 +162,10 @@ fn exchanged<J: Naming, T: Wait>(
         Ok(named) => named,
         Err(not) => return Err(Fail::new(not.refusal)),
     };
-    let seats = Seating::new(alloc, seats, operator)?;
-    let mut desk = CountingDesk {
-        desk: BrokerDesk::new(alloc, &shared, &seats)?,
-        made: 0,
-        settles: limits.settled,
-        unsettled: 0,
-    };
-    let mut reader = SlowReader::new(input, limits.each, limits.readable);
-    let mut writer = SlowWriter::new(alloc, limits.each, limits.writable);
-    let end = serve::<T, JsonLines, _, _, _>(rt, alloc, &mut reader, &mut writer, &mut desk);
-    Ok(Exchange {
-        end,
-        written: writer.into_written(),
-        made: desk.made,
-    })
+    match Seating::new(alloc, seats, operator) {
+        Ok(seats) => exchanged_at(rt, alloc, &shared, &seats, input, limits),
+        Err(refusal) => Err(Fail::new(refusal)),
+    }
 }
 
 /// The input served by a new broker of two clients with two records each.

@@ -90,7 +90,31 @@ fn put_all<J: Naming, R: Wait + Clock>(
     }
 }
 
-/// All connections put at once, and one of them then takes what is there: how many values these are.
+/// A queue is created, all connections put in it at once, and one more then takes what is there: how many values these
+/// are.
+fn put_and_taken<J: Naming + Send + Sync, R: Threads + Wait + Clock + Abort + Sync>(
+    rt: &R,
+    alloc: Global,
+    shared: &Shared<J>,
+    seats: &Seating<J>,
+    tally: &Tally,
+) -> Result<u64, Fail> {
+    let mut desk = BrokerDesk::new(alloc, shared, seats)?;
+    let create = Request::Create {
+        queue: Name::make(b"a").ok(),
+        kind: Kind::Durable,
+    };
+    assert!(rt; matches!(desk.answer(rt, create), Answer::Created(_)));
+    map_indices(
+        rt,
+        alloc,
+        CONNECTIONS,
+        &|_: usize| { put_all(rt, alloc, shared, seats, tally) },
+    )?;
+    taken(rt, &mut desk)
+}
+
+/// The same, once the broker has its name.
 fn shared_by_all<J: Naming + Send + Sync, R: Threads + Wait + Clock + Abort + Sync>(
     rt: &R,
     alloc: Global,
@@ -103,20 +127,10 @@ fn shared_by_all<J: Naming + Send + Sync, R: Threads + Wait + Clock + Abort + Sy
         Ok(named) => named,
         Err(not) => return Err(Fail::new(not.refusal)),
     };
-    let seats = Seating::new(alloc, seats, operator)?;
-    let mut desk = BrokerDesk::new(alloc, &shared, &seats)?;
-    let create = Request::Create {
-        queue: Name::make(b"a").ok(),
-        kind: Kind::Durable,
-    };
-    assert!(rt; matches!(desk.answer(rt, create), Answer::Created(_)));
-    map_indices(
-        rt,
-        alloc,
-        CONNECTIONS,
-        &|_: usize| { put_all(rt, alloc, &shared, &seats, tally) },
-    )?;
-    taken(rt, &mut desk)
+    match Seating::new(alloc, seats, operator) {
+        Ok(seats) => put_and_taken(rt, alloc, &shared, &seats, tally),
+        Err(refusal) => Err(Fail::new(refusal)),
+    }
 }
 
 /// How many values client 1 takes until the queue is empty.
@@ -136,8 +150,17 @@ fn taken<J: Naming, R: Wait>(rt: &R, desk: &mut BrokerDesk<'_, J>) -> Result<u64
     Err(Fail::new("more values than there may be"))
 }
 
-/// All connections put at once in a new broker. How many values the queue then has is how many were told Done. Whether a
-/// connection found the seat in use.
+/// How many values the queue has is how many were told Done. Whether a connection found the seat in use.
+fn is_in_use<R: Abort>(rt: &R, tally: &Tally, values: u64) -> Result<bool, Fail> {
+    let done = tally.done.load(Ordering::SeqCst);
+    let busy = tally.busy.load(Ordering::SeqCst);
+    assert_eq!(rt; tally.other.load(Ordering::SeqCst), 0, "other answers");
+    assert_eq!(rt; done.saturating_add(busy), 4_000, "answers");
+    assert_eq!(rt; values, done, "values");
+    Ok(busy > 0)
+}
+
+/// All connections put at once in a new broker. Whether one of them found the seat in use.
 fn is_found_in_use<R: Threads + Wait + Clock + Abort + Sync>(
     rt: &R,
     alloc: Global,
@@ -153,14 +176,7 @@ fn is_found_in_use<R: Threads + Wait + Clock + Abort + Sync>(
         return Err(Fail::new("it is in use"));
     };
     let values = shared_by_all::<Brand, _>(rt, alloc, opened, &tally)?;
-    let (done, busy) = (
-        tally.done.load(Ordering::SeqCst),
-        tally.busy.load(Ordering::SeqCst),
-    );
-    assert_eq!(rt; tally.other.load(Ordering::SeqCst), 0, "other answers");
-    assert_eq!(rt; done.saturating_add(busy), 4_000, "answers");
-    assert_eq!(rt; values, done, "values");
-    Ok(busy > 0)
+    is_in_use(rt, &tally, values)
 }
 
 #[test]
