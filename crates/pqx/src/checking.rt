@@ -118,26 +118,44 @@ fn show(
     }
 }
 
+/// The answer to a recording. A terminal is told how far a long search is.
+fn found(rt: &HostRuntime, recording: &Recording) -> Result<Answer, AllocError> {
+    let mut searching = Searching::new(rt);
+    let answer = answer_of(rt.alloc(), recording, &mut searching);
+    searching.clear();
+    answer
+}
+
+/// Says what the answer is, as text, and as a page if one is asked for.
+fn tell(
+    rt: &HostRuntime,
+    recording: &Recording,
+    answer: &Answer,
+    asked: CheckOptions<'_>,
+) -> Result<(), Refusal> {
+    let Ok(text) = text(rt, recording, answer, asked.order) else {
+        return Err(Refusal::NoMemory);
+    };
+    print(rt, text.as_str())?;
+    match asked.page {
+        Some(path) => show(rt, recording, answer, path),
+        None => Ok(()),
+    }
+}
+
 /// Answers for a recording, and says which status to end with.
 fn answered(
     rt: &HostRuntime,
     recording: &Recording,
     asked: CheckOptions<'_>,
 ) -> Result<ExitCode, Refusal> {
-    let mut searching = Searching::new(rt);
-    let answer = answer_of(rt.alloc(), recording, &mut searching);
-    searching.clear();
-    let Ok(answer) = answer else {
-        return Err(Refusal::NoMemory);
-    };
-    let Ok(text) = text(rt, recording, &answer, asked.order) else {
-        return Err(Refusal::NoMemory);
-    };
-    print(rt, text.as_str())?;
-    if let Some(path) = asked.page {
-        show(rt, recording, &answer, path)?;
+    match found(rt, recording) {
+        Ok(answer) => match tell(rt, recording, &answer, asked) {
+            Ok(()) => Ok(status(&answer)),
+            Err(refusal) => Err(refusal),
+        },
+        Err(_) => Err(Refusal::NoMemory),
     }
-    Ok(status(&answer))
 }
 
 /// The verdict on the recording that standard input has, and the status to end with: 2 where a line is refused.
