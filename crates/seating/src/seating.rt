@@ -9,6 +9,7 @@ ghost use Rattle.seating.specs.Seating.{AreBack, AreInPlaces};
 
 use arena::SlotId;
 use std::alloc::Global;
+use std::marker::Model;
 use std::sync::{Mutex, RwLock, RwLockReadGuard, RwLockWriteGuard, Wait};
 use waiting::lock;
 use words::{Client, Refusal};
@@ -98,8 +99,15 @@ impl<J: Naming> Places<J> {
 /// The empty place of a seat that a connection is using. It is no `Drop`, and only [`Seating::put`] takes it: a seat that
 /// was taken is put back.
 pub struct Owed {
-    /// Whose seat it is.
-    pub client: Client,
+    client: Client,
+}
+
+impl Model for Owed {
+    ghost use Rattle.words.specs.declared.call.Client.{Client};
+
+    ghost Value = { Client };
+
+    ghost view = { λ owed. owed.client };
 }
 
 /// The empty places of all seats, likewise: only [`Seating::put_all`] takes it.
@@ -223,7 +231,7 @@ impl<J: Naming> Seating<J> {
 
     /// The client's seat, and the place that it leaves, unless another connection is using it.
     pub fn take<R: Wait>(&self, rt: &R, client: Client) -> Option<(Owed, Seat<J>)>
-        ensures owed { IfSome result (λ r. r.0.client ≡ client) }
+        ensures owed { IfSome result (λ r. r.0 ≡ client) }
         ensures seat { IfSome result (λ r. r.1.client ≡ client) }
     {
         let seat = lock(rt, &self.places).take(client)?;
@@ -232,7 +240,7 @@ impl<J: Naming> Seating<J> {
 
     /// The connection is not using the seat any more.
     pub fn put<R: Wait>(&self, rt: &R, owed: Owed, seat: Seat<J>)
-        requires { seat.client ≡ owed.client }
+        requires { seat.client ≡ owed }
     {
         let Owed { client: _ } = owed;
         lock(rt, &self.places).put(seat);
