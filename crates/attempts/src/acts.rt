@@ -6,10 +6,10 @@ ghost use Rattle.protocol.specs.declared.acts.Act.TheVariants.{Start};
 ghost use Rattle.attempts.specs.Acts.{accepted_by, accepted_of, acts_of, attempts_of, IsSteady};
 
 use crate::attempts::{attempt, most_to_ready, repeat};
-use crate::lists::push;
 use arena::Layout;
 use grammar::Command;
 use interleave::{Act, World};
+use playing::push;
 use std::alloc::Global;
 use words::{Call, Client, MAX_STEPS_ALONE, Refusal};
 

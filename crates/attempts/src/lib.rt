@@ -5,7 +5,6 @@ mod acts;
 mod answers;
 mod attempts;
 mod laws;
-mod lists;
 mod lone_calls;
 
 pub use acts::accepted_acts;

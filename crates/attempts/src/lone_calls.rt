@@ -8,10 +8,10 @@ ghost use Rattle.attempts.specs.Stopped.{alone_after, alone_at_each, alone_of, l
 use crate::acts::accepted_acts;
 use crate::answers::Alone;
 use crate::attempts::{attempt_all, pass_over};
-use crate::lists::push;
 use arena::Layout;
 use grammar::Script;
 use interleave::{Act, World};
+use playing::push;
 use std::alloc::Global;
 use words::{Client, Refusal};
 

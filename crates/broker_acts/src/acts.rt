@@ -6,11 +6,11 @@ ghost use Rattle.broker_script.specs.Play.{Played, new_played};
 ghost use Rattle.broker_acts.specs.Acts.{act_of, beginning, plain_command, steps_of, is_refusal, is_refused, most_recovery, says_refused, times_of, AreActsOf, Attempts, IsAttempted};
 ghost use Rattle.broker_acts.specs.Made.{Adds, AddsActsOf, AddsAsked, AddsBegun, AddsCreation};
 
-use broker_lines::{Ask, Printed, Statement, push};
+use broker_lines::{Ask, Printed, Statement};
 use broker_script::{Player, asker};
 use directory::{CREATION_STEPS, Name};
 use grammar::Command;
-use playing::Line;
+use playing::{Line, push};
 use std::alloc::Global;
 use words::{Call, Client, Kind, MAX_STEPS_ALONE, Refusal};
 

@@ -7,18 +7,11 @@ ghost use Rattle.rand_pcg.specs.Pcg.{multiplier_64};
 ghost use Rattle.explore.specs.Points.{drawn_words, evicted_words};
 
 use explore::Evictions;
+use playing::push;
 use rand_core::utils::NextWord;
 use rand_pcg::Pcg32;
 use std::alloc::Global;
 use words::Refusal;
-
-/// Adds a word.
-fn push(words: &mut Vec<usize>, word: usize) -> Result<(), Refusal>
-    ensures words { OnOk result (words.new.items ≡ words.old.items ++ word ∷ []) }
-    ensures errors { IfErr result (λ e. e ≡ Refusal.NoMemory) }
-{
-    words.push(word).map_err(|_| Refusal::NoMemory)
-}
 
 /// All of so many words.
 fn all_words(alloc: Global, size: usize) -> Result<Vec<usize>, Refusal>

@@ -10,7 +10,7 @@ mod statements;
 
 pub use adding::add_line;
 pub use laws::one_script_a_text;
-pub use lines::{Room, append, labelled, one, one_line, push, refused, text, unfollowed};
+pub use lines::{Room, append, labelled, one, one_line, refused, text, unfollowed};
 pub use printed::Printed;
 pub use rows::is_whole;
 pub use statements::{Ask, BrokerLine, Statement};

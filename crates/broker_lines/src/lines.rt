@@ -106,14 +106,6 @@ pub fn unfollowed(begun: bool) -> Unfollowed
     }
 }
 
-/// Adds an item.
-pub fn push<T: Drop>(items: &mut Vec<T>, item: T) -> Result<(), Refusal>
-    ensures items { OnOk result (items.new.items ≡ items.old.items ++ item ∷ []) }
-    ensures errors { IfErr result (λ e. e ≡ Refusal.NoMemory) }
-{
-    items.push(item).map_err(|_| Refusal::NoMemory)
-}
-
 /// Adds lines, in their order.
 pub fn append(lines: &mut Vec<Printed>, mut more: Vec<Printed>) -> Result<(), Refusal>
     ensures lines { OnOk result (lines.new.items ≡ lines.old.items ++ more.items) }

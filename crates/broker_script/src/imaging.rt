@@ -11,10 +11,10 @@ ghost use Rattle.broker_script.specs.Play.{new_played};
 ghost use Rattle.broker_script.specs.PutOff.{PutsOff};
 
 use crate::player::{Player, no_steps};
-use broker_lines::{Printed, Room, push, refused};
+use broker_lines::{Printed, Room, refused};
 use named::Broker;
 use persist::{KeptWords, Memory};
-use playing::{Line, Unfollowed};
+use playing::{Line, Unfollowed, push};
 use session::Session;
 use sha2::{Digest, Sha256};
 use std::alloc::Global;

@@ -12,9 +12,9 @@ ghost use Rattle.grammar.specs.declared.commands.Command.{Command};
 use crate::player::Player;
 use crate::script::Script;
 use arena::BrokerLayout;
-use broker_lines::{BrokerLine, Printed, Statement, append, one, push, text};
+use broker_lines::{BrokerLine, Printed, Statement, append, one, text};
 use grammar::Command;
-use playing::{Line, Unfollowed, line_to_make};
+use playing::{Line, Unfollowed, line_to_make, push};
 use std::alloc::Global;
 use words::Refusal;
 

@@ -13,16 +13,9 @@ use crate::stop::{Probe, stop};
 use arena::Layout;
 use attempts::{attempt, attempt_all};
 use interleave::{Act, World};
+use playing::push;
 use std::alloc::Global;
 use words::Refusal;
-
-/// Adds a point.
-fn push(points: &mut Vec<Point>, point: Point) -> Result<(), Refusal>
-    ensures points { OnOk result (points.new.items ≡ points.old.items ++ point ∷ []) }
-    ensures errors { IfErr result (λ e. e ≡ Refusal.NoMemory) }
-{
-    points.push(point).map_err(|_| Refusal::NoMemory)
-}
 
 /// Adds what is found if a world stops now.
 fn add_stop(

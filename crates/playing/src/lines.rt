@@ -4,6 +4,7 @@ ghost use Rattle.std.specs.Prelude.{◌≡◌, ◌≢◌, ◌++◌, ◌∷◌, [
 ghost use Rattle.playing.specs.Prints.{text_of};
 
 use crate::entries::Ordered;
+use crate::lists::push;
 use grammar::Command;
 use std::alloc::Global;
 use std::fmt::{self, Write};
@@ -130,7 +131,7 @@ pub fn add(lines: &mut Vec<Line>, line: Line) -> Result<(), Refusal>
     ensures lines { OnOk result (lines.new.items ≡ lines.old.items ++ line ∷ []) }
     ensures errors { IfErr result (λ e. e ≡ Refusal.NoMemory) }
 {
-    lines.push(line).map_err(|_| Refusal::NoMemory)
+    push(lines, line)
 }
 
 /// Adds why something was refused; want of memory is no line, but ends the transcript.

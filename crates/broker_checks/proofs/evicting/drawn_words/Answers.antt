@@ -17,7 +17,7 @@ loop-word-preserved c =
     let next = ap (λ p. p.1) c.next_word.ensures in
     elim c.if-next_word-eq1.branch [
       | then-next_word-eq1+in_ok-push b ↦ draw_taken rest word c.next_word.result c.loop-word.draws c.next_word.new.self so_far
-          c.if-next_word-eq1.words.items all bits next b.if-next_word-eq1.true (ap (λ v. v.items) b.words-is ∙ b.in_ok-push.ensures.words) before
+          c.if-next_word-eq1.words.items all bits next b.if-next_word-eq1.true (ap (λ v. v.items) b.words-is ∙ b.in_ok-push.ensures.items) before
       | else-next_word-eq1 b ↦ draw_passed rest word c.next_word.result c.loop-word.draws c.next_word.new.self so_far
           c.if-next_word-eq1.words.items all bits next b.if-next_word-eq1.false (ap (λ v. v.items) b.words-is) before
     ]

@@ -8,4 +8,4 @@ pub returns-clause-points : goal.returns-clause-points
 returns-clause-points c =
     on_ok_weaker c.push.result (λ is. ap (map found_of) is
     ∙ map-append found_of c.args.points.now.items (c.in_ok-found.found ∷ [])
-    ∙ ap (λ x. map found_of c.args.points.now.items ++ x ∷ []) c.in_ok-found.ensures.found) c.push.ensures.points
+    ∙ ap (λ x. map found_of c.args.points.now.items ++ x ∷ []) c.in_ok-found.ensures.found) c.push.ensures.items

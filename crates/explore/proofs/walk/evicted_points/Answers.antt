@@ -13,5 +13,5 @@ loop-point-preserved c =
     length-take point c.args.acts.now ∙ omega (arith, c.loop-point-test.true, c.requires.within) in
     let is : found_of c.in_ok-crash.field-0 ≡ f point =
     c.in_ok-crash.ensures.found ∙ ap (found_after c.args.layout (take point c.args.acts.now) c.args.evictions) all in
-    ap (map found_of) c.in_ok-push.ensures.points
+    ap (map found_of) c.in_ok-push.ensures.items
     ∙ point_more f c.loop-point.points.items c.in_ok-crash.field-0 c.args.from point up c.loop-point.invariant is
