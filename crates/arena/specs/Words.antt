@@ -1,5 +1,5 @@
 -- The words of a queue, where each place has a value.
-use Rattle.std.specs.Prelude.{◌≡◌, ◌<◌, ◌^◌, ℕ, length, refl}
+use Rattle.std.specs.Prelude.{◌≡◌, ◌<◌, ◌^◌, ℕ, length}
 use Rattle.std.specs.Int.{w32, to_le_bytes}
 use Rattle.words.specs.Item.{AreParts, item_of, first_word, second_word, third_word}
 use Rattle.words.specs.PlainQueue.{Value, FitsValue}

@@ -1,9 +1,8 @@
 //! The acts of a broker's script: each is a line of its own that makes one step at most.
 
-ghost use Rattle.std.specs.Prelude.{◌≡◌, ◌++◌, ◌∷◌, [], Some, OnOk, IfOk, IfErr, List, not, replicate};
+ghost use Rattle.std.specs.Prelude.{◌≡◌, ◌++◌, ◌∷◌, [], Some, OnOk, IfOk, IfErr, List, replicate};
 ghost use Rattle.broker_lines.specs.declared.statements.Statement.{Statement};
-ghost use Rattle.broker_script.specs.Play.{Played, new_played};
-ghost use Rattle.broker_acts.specs.Acts.{act_of, beginning, plain_command, steps_of, is_refusal, is_refused, most_recovery, says_refused, times_of, AreActsOf, Attempts, IsAttempted};
+ghost use Rattle.broker_acts.specs.Acts.{act_of, beginning, plain_command, steps_of, is_refusal, is_refused, says_refused, times_of, AreActsOf, IsAttempted};
 ghost use Rattle.broker_acts.specs.Made.{Adds, AddsActsOf, AddsAsked, AddsBegun, AddsCreation};
 
 use broker_lines::{Ask, Printed, Statement};

@@ -1,8 +1,7 @@
 //! The line of a point, as text.
 
-ghost use Rattle.std.specs.Prelude.{◌≡◌, ◌++◌, ◌<◌, ◌≤◌, None, OnOk, IfOk, IfErr, IsSome, slice_get, string_bytes};
+ghost use Rattle.std.specs.Prelude.{◌≡◌, ◌++◌, ◌<◌, None, OnOk, IfOk, IfErr, IsSome, slice_get, string_bytes};
 ghost use Rattle.words.specs.Text.{told_text};
-ghost use Rattle.interleave.specs.State.{kept_content};
 ghost use Rattle.named.specs.Brokers.{world_at, IsWell};
 ghost use Rattle.playing.specs.Transcript.{told_at};
 ghost use Rattle.script_reports.specs.Reports.{content_text, end_text};

@@ -1,6 +1,6 @@
 //! The next line of a broker's script, added to what the lines before it say.
 
-ghost use Rattle.std.specs.Prelude.{MatchOption, ◌≡◌, ◌||◌, Ok, IfErr, Option, None, Some, not, true, false};
+ghost use Rattle.std.specs.Prelude.{MatchOption, ◌≡◌, ◌||◌, Ok, IfErr, Option, None, Some, true, false};
 ghost use Rattle.std.specs.List.{list_any};
 ghost use Rattle.broker_lines.specs.Script.{SaysAfter, SaysNoneAfter, Continues, EndsBadly, creates, creates_for, may_follow};
 ghost use Rattle.broker_lines.specs.declared.statements.Statement.{Statement};

@@ -1,6 +1,6 @@
 //! What a crash of a whole broker after some acts comes to.
 
-ghost use Rattle.std.specs.Prelude.{◌≡◌, ◌++◌, ◌∷◌, [], None, true, false, IsTrue, OnOk, IfOk, IfErr, map, replicate};
+ghost use Rattle.std.specs.Prelude.{◌≡◌, ◌∷◌, [], None, true, false, IsTrue, OnOk, IfOk, IfErr, map, replicate};
 ghost use Rattle.named.specs.GoingOn.{BrokerGoesOn};
 ghost use Rattle.session.specs.Keeping.{SessionGoesOn};
 ghost use Rattle.broker_lines.specs.Grammar.{IsServedBroker};

@@ -1,10 +1,10 @@
 //! The report on a script, as text.
 
-ghost use Rattle.std.specs.Prelude.{◌≡◌, ◌++◌, OnOk, IfOk, IfErr, count_by, length, map, not, string_bytes};
+ghost use Rattle.std.specs.Prelude.{◌≡◌, ◌++◌, OnOk, IfOk, IfErr, count_by, map, not};
 ghost use Rattle.std.specs.List.{concat};
 ghost use Rattle.broker_lines.specs.Grammar.{counts_by, IsServedBroker};
 ghost use Rattle.broker_points.specs.Run.{count_text, IsReport, IsReportOf};
-ghost use Rattle.broker_points.specs.Sweep.{report_on, text_of, AreOk};
+ghost use Rattle.broker_points.specs.Sweep.{report_on, text_of};
 
 use crate::point::Point;
 use crate::sweep::{Schedule, all_points};

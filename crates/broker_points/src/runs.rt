@@ -1,6 +1,6 @@
 //! A broker's script from a reader, crashed everywhere, and the report on that to a writer.
 
-ghost use Rattle.std.specs.Prelude.{◌≡◌, ◌<◌, ◌↔◌, OnOk, IfErr, IsErrOf};
+ghost use Rattle.std.specs.Prelude.{◌<◌, ◌↔◌, OnOk, IfErr, IsErrOf};
 ghost use Rattle.devices.specs.Devices.{IsFlushed};
 ghost use Rattle.playing.specs.Run.{IsRunRefusal, OnWriteFailed, WritesNothing};
 ghost use Rattle.broker_script.specs.Run.{NamesBadLine};

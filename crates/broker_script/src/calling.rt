@@ -1,6 +1,6 @@
 //! Lines on a queue of a broker that follows a script.
 
-ghost use Rattle.std.specs.Prelude.{◌≡◌, ◌≢◌, ◌<◌, ◌++◌, ◌∷◌, [], ℕ, false, true, Ok, Err, None, Some, IsSome, IfOk, IfErr, IsErrOf, OnOk, OnErr, option_to_list, slice_get, slice_index};
+ghost use Rattle.std.specs.Prelude.{◌≡◌, ◌≢◌, ◌<◌, ◌++◌, ℕ, false, true, Ok, Err, None, Some, IsSome, IfOk, IfErr, IsErrOf, OnOk, OnErr, option_to_list, slice_get, slice_index};
 ghost use Rattle.interleave.specs.State.{start_result};
 ghost use Rattle.named.specs.Brokers.{world_at};
 ghost use Rattle.named.specs.Finding.{IsPlaced};

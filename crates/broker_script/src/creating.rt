@@ -1,6 +1,6 @@
 //! Creations of a broker that follows a script.
 
-ghost use Rattle.std.specs.Prelude.{◌≡◌, IfOk, IfErr, IfSome, IfNone, None};
+ghost use Rattle.std.specs.Prelude.{◌≡◌, IfOk, IfSome, None};
 ghost use Rattle.directory.specs.Directory.{HasQueue};
 ghost use Rattle.broker_script.specs.Creating.{BeginsCreation, Creates, HasSomeQueue, IsBegunOn, IsCreatedOn, ShowsCreated};
 ghost use Rattle.broker_script.specs.PutOff.{PutsOff};

@@ -4,9 +4,8 @@ ghost use Rattle.std.specs.Prelude.{◌≡◌, ◌++◌, ◌∷◌, [], Ok, IfOk
 ghost use Rattle.broker_lines.specs.Grammar.{counts_by, IsServedBroker};
 ghost use Rattle.broker_lines.specs.Lines.{no_memory};
 ghost use Rattle.broker_lines.specs.declared.statements.Statement.{Statement};
-ghost use Rattle.broker_script.specs.Play.{new_played};
 ghost use Rattle.broker_script.specs.PutOff.{IsPutOff};
-ghost use Rattle.broker_script.specs.Transcript.{AddsGiven, AreLinesOf, FollowsAll, IsPlayedOn, IsTranscript};
+ghost use Rattle.broker_script.specs.Transcript.{AddsGiven, FollowsAll, IsPlayedOn, IsTranscript};
 ghost use Rattle.grammar.specs.declared.commands.Command.{Command};
 
 use crate::player::Player;

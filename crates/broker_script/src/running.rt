@@ -1,6 +1,6 @@
 //! A broker's script from a reader, followed to a writer.
 
-ghost use Rattle.std.specs.Prelude.{◌≡◌, ◌<◌, ◌↔◌, OnOk, OnErr, IfOk, IfErr, IsErrOf};
+ghost use Rattle.std.specs.Prelude.{◌<◌, ◌↔◌, OnOk, IfOk, IfErr, IsErrOf};
 ghost use Rattle.devices.specs.Devices.{IsFlushed};
 ghost use Rattle.playing.specs.Run.{IsReadRefusal, IsRunRefusal, OnWriteFailed, WritesNothing};
 ghost use Rattle.broker_script.specs.Run.{BeginsRun, NamesBadLine, PrintsRun, SaysInput};

@@ -1,7 +1,7 @@
 //! What a broker that follows a script is asked as a whole.
 
 ghost use Rattle.std.specs.Prelude.{◌≡◌, ◌≤◌, ◌<◌, Some, None, IfOk, IfErr, length, slice_get};
-ghost use Rattle.broker_script.specs.OnQueue.{told_by, IsToldLine};
+ghost use Rattle.broker_script.specs.OnQueue.{IsToldLine};
 ghost use Rattle.broker_script.specs.PutOff.{PutsOff};
 ghost use Rattle.broker_script.specs.Transcript.{list_lines, place_lines, places_below, Evicts, Finds, Rotates, Tells};
 

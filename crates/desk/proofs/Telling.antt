@@ -23,7 +23,7 @@ use Rattle.words.specs.declared.refusal.Refusal.TheVariants.{NoClient}
 use Rattle.desk.specs.Requests.{is_answer_to, NamesNoClient}
 use Rattle.desk.specs.Serving.{AreAnswered, Desked, IsDesked}
 use Rattle.desk.proofs.Keeping.{answered_more}
-use Rattle.desk.specs.Telling.{AreReplied, GoesOnMarked, HasReply, IsReplied, IsRepliedTo, IsRepliedIf}
+use Rattle.desk.specs.Telling.{AreReplied, GoesOnMarked, HasReply, IsRepliedTo, IsRepliedIf}
 use Rattle.desk.specs.declared.calls.Asked.{Asked}
 
 -- at a session that goes on from there too

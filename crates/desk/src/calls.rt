@@ -1,6 +1,6 @@
 //! Puts and takes, each with its client's seat.
 
-ghost use Rattle.std.specs.Prelude.{◌≡◌, IfErr, IfNone, IfOk, IfSome, IsErr, IsNone, IsTrue, OnErr, OnOk, true};
+ghost use Rattle.std.specs.Prelude.{◌≡◌, IfErr, IfNone, IfSome, IsNone, IsTrue, OnErr, OnOk, true};
 ghost use Rattle.desk.specs.Calls.{answer_on_wire, asked_in, AnswersAsked, AnswersCall, AnswersSettled};
 ghost use Rattle.desk.specs.Calls.{IsOfNoName, IsSettled, why_nameless};
 ghost use Rattle.wire.specs.declared.answer.Answer.{Answer as AnyAnswer};

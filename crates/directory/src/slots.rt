@@ -1,6 +1,6 @@
 //! The directory in hand: what each slot has.
 
-ghost use Rattle.std.specs.Prelude.{◌≡◌, ◌↔◌, ℕ, ◌<◌, IsTrue, IfSome, IfNone, Some, None, replicate, slice_get, slice_set};
+ghost use Rattle.std.specs.Prelude.{◌≡◌, ◌↔◌, ℕ, ◌<◌, IsTrue, IfSome, IfNone, Some, None, replicate, slice_set};
 ghost use Rattle.directory.specs.Directory.{IsDirectory, IsFree, IsLowestFree, IsNamed, HasName, IsQueueNamed};
 
 use crate::name::Name;

@@ -1,7 +1,7 @@
 //! The durable queue: after a crash it tells each client what became of its last dequeue.
 #![tactic(auto)]
 
-ghost use Rattle.std.specs.Prelude.{◌≡◌, ◌≤◌, ◌<◌, slice_get};
+ghost use Rattle.std.specs.Prelude.{◌≡◌, ◌≤◌, slice_get};
 ghost use Rattle.durable.specs.Rows.{no_calls, row_of};
 
 use std::marker::Model;

@@ -1,7 +1,7 @@
 //! Serving a reader and a writer.
 // A clause that names the desk and the writer before and after, and the input, may be longer than 120 columns.
 
-ghost use Rattle.std.specs.Prelude.{◌≡◌, ◌<◌, ◌↔◌, OnOk, IsErrOf};
+ghost use Rattle.std.specs.Prelude.{◌<◌, ◌↔◌, OnOk, IsErrOf};
 ghost use Rattle.devices.specs.Devices.{IsFlushed};
 ghost use Rattle.engine.specs.Desks.{ServesPart, ServesRead, ServesWhole};
 

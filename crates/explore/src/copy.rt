@@ -5,7 +5,7 @@ ghost use Rattle.words.specs.declared.limits.TheConstants.{MAX_CLIENTS};
 ghost use Rattle.persist.specs.Memory.{IsUnasked};
 ghost use Rattle.interleave.specs.Holds.{Holds};
 ghost use Rattle.interleave.specs.Queue.{told_in};
-ghost use Rattle.interleave.specs.State.{after_acts, after_stop, taken_of};
+ghost use Rattle.interleave.specs.State.{after_stop, taken_of};
 ghost use Rattle.explore.specs.Points.{events_once_ready, recovered, recovery_of};
 
 use attempts::most_to_ready;

@@ -1,6 +1,6 @@
 //! Which points of a script are wanted.
 
-ghost use Rattle.std.specs.Prelude.{◌≡◌, ◌≤◌, ◌-◌, ◌+◌, ℕ, length};
+ghost use Rattle.std.specs.Prelude.{◌≡◌, ◌≤◌, ◌-◌, ◌+◌};
 ghost use Rattle.std.specs.List.{range_with_len};
 ghost use Rattle.explore.specs.Points.{part_of};
 

@@ -1,6 +1,6 @@
 //! Points that one worker makes, one after another.
 
-ghost use Rattle.std.specs.Prelude.{◌≡◌, ◌<◌, ◌≤◌, ◌+◌, ◌-◌, ◌++◌, ◌∷◌, [], OnOk, IfOk, IfErr, length};
+ghost use Rattle.std.specs.Prelude.{◌≡◌, ◌<◌, ◌≤◌, ◌+◌, ◌-◌, OnOk, IfOk, IfErr, length};
 ghost use Rattle.arena.specs.Layout.{size_of};
 ghost use Rattle.interleave.specs.Holds.{Holds};
 ghost use Rattle.interleave.specs.State.{new_world};

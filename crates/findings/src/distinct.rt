@@ -1,6 +1,6 @@
 //! Whether values differ.
 
-ghost use Rattle.std.specs.Prelude.{◌≡◌, IsTrue};
+ghost use Rattle.std.specs.Prelude.{IsTrue};
 ghost use Rattle.std.specs.List.Sorted.{IsStrictlyIncreasing};
 ghost use Rattle.findings.specs.Findings.{HasDistinctValues};
 

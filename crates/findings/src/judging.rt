@@ -1,6 +1,6 @@
 //! The judge of witnesses.
 
-ghost use Rattle.std.specs.Prelude.{◌≡◌, ◌<◌, ◌≤◌, ◌⊎◌, ℕ, length, IsTrue, All, List, Option};
+ghost use Rattle.std.specs.Prelude.{◌<◌, ◌≤◌, ◌⊎◌, ℕ, length, IsTrue, All, Option};
 ghost use Rattle.events.specs.History.{Precedes};
 ghost use Rattle.findings.specs.Findings.{HasNoOrder, IsOverBy, PutsAt};
 ghost use Rattle.findings.specs.Shows.{IsNoSource, IsPutOf, NobodyPut, IsShown, Shows, ShowsInvented, ShowsTwice};

@@ -1,6 +1,6 @@
 //! What is known of one call.
 
-ghost use Rattle.std.specs.Prelude.{◌≡◌, ◌<◌, ◌≤◌, ◌↔◌, ℕ, length, IfNone, IfSome, IsTrue};
+ghost use Rattle.std.specs.Prelude.{◌≡◌, ◌<◌, ◌↔◌, length, IfNone, IfSome, IsTrue};
 ghost use Rattle.words.specs.PlainQueue.{Value};
 ghost use Rattle.words.specs.declared.call.Call.TheVariants.{Enq};
 ghost use Rattle.events.specs.History.{EndsAt, Precedes};

@@ -1,9 +1,9 @@
 //! Whether takes lack: whether those that began before a bound cannot have taken all values of some puts.
 
-ghost use Rattle.std.specs.Prelude.{◌≡◌, ◌<◌, ◌≤◌, ◌↔◌, length, IsTrue, All, Any, Contains, Option};
+ghost use Rattle.std.specs.Prelude.{◌<◌, ◌↔◌, IsTrue, All, Any, Option};
 ghost use Rattle.words.specs.declared.call.Reply.TheVariants.{Got};
-ghost use Rattle.findings.specs.Findings.{IsKnownGot, PutsAt};
-ghost use Rattle.findings.specs.Shows.{IsAhead, IsInAt, AreInSince, WasOver, IsValueOf, CanHaveTaken, AreListed, IsListed};
+ghost use Rattle.findings.specs.Findings.{PutsAt};
+ghost use Rattle.findings.specs.Shows.{IsAhead, IsInAt, AreInSince, WasOver, CanHaveTaken, AreListed, IsListed};
 ghost use Rattle.findings.specs.Shows.{IsKnownPut, IsFew, IsLate, Lacks};
 
 use crate::distinct::numbers_rise;

@@ -1,7 +1,7 @@
 //! What each pattern shows.
 // A law's clause begins with all that it speaks of, so some of them are longer than 120 columns.
 
-ghost use Rattle.std.specs.Prelude.{◌≡◌, ◌↔◌, ℕ, List, Option};
+ghost use Rattle.std.specs.Prelude.{◌↔◌, List, Option};
 ghost use Rattle.words.specs.declared.told.Outcome.{Outcome};
 ghost use Rattle.events.specs.declared.event.Event.{Event};
 ghost use Rattle.events.specs.declared.event.Entry.{Entry};

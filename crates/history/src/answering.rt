@@ -1,7 +1,7 @@
 //! Whether complete calls are in an order with the replies that they returned, by a pass for each client: as its calls
 //! stand in the order one after another, each search for one goes on where the last one ended.
 
-ghost use Rattle.std.specs.Prelude.{◌≡◌, ◌<◌, ◌≤◌, ◌+◌, ◌↔◌, length, IsTrue, IfSome, IfNone, EachIndex};
+ghost use Rattle.std.specs.Prelude.{◌<◌, ◌+◌, ◌↔◌, length, IsTrue, IfSome, IfNone, EachIndex};
 ghost use Rattle.words.specs.declared.call.Reply.{Reply};
 ghost use Rattle.events.specs.Explains.{IsAnswered, KeepsPrecedence};
 ghost use Rattle.events.specs.History.{ReturnAt, IsHistory};

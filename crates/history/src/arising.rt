@@ -1,6 +1,6 @@
 //! Whether a history may arise, by a pass for each client.
 
-ghost use Rattle.std.specs.Prelude.{◌≡◌, ◌<◌, ◌≤◌, ◌+◌, ◌↔◌, ℕ, Some, length, IsTrue, All, slice_get};
+ghost use Rattle.std.specs.Prelude.{◌<◌, ◌+◌, ◌↔◌, length, IsTrue, All};
 ghost use Rattle.words.specs.declared.call.Client.{Client};
 ghost use Rattle.events.specs.declared.event.Event.{Event};
 ghost use Rattle.events.specs.History.{IsDown, IsUnderWay, IsHistory};

@@ -1,9 +1,8 @@
 //! The replay of an order without memory: where the front of the queue stands.
 
-ghost use Rattle.std.specs.Prelude.{◌≡◌, ◌<◌, ◌≤◌, ◌+◌, ◌↔◌, [], length, IsTrue, IfNone, take};
-ghost use Rattle.history.specs.Counting.{values_of_order};
+ghost use Rattle.std.specs.Prelude.{◌≡◌, ◌<◌, ◌≤◌, ◌+◌, ◌↔◌, [], length, IsTrue, IfNone};
 ghost use Rattle.history.specs.Fronts.{values_between, queue_at, reply_of_front, IsFirstHeld, IsFirstPut, IsFront};
-ghost use Rattle.events.specs.Replay.{queue_after, IsRightAt, Replays};
+ghost use Rattle.events.specs.Replay.{IsRightAt, Replays};
 
 use crate::replaying::{named_call, value_put};
 use events::{Entry, Events, is_same_reply};

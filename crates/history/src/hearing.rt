@@ -1,7 +1,7 @@
 //! What clients are told at a Ready, by a pass for each client. Its last call in the order is known from Ready to
 //! Ready.
 
-ghost use Rattle.std.specs.Prelude.{◌≡◌, ◌<◌, ◌≤◌, ◌+◌, ◌^◌, ◌↔◌, ◌⊎◌, Some, length, IsTrue, IfSome, IfNone, All};
+ghost use Rattle.std.specs.Prelude.{◌≡◌, ◌<◌, ◌≤◌, ◌+◌, ◌^◌, ◌↔◌, Some, length, IsTrue, IfSome, All};
 ghost use Rattle.std.specs.Prelude.{EachIndex, slice_get};
 ghost use Rattle.events.specs.Telling.{TellsAt};
 ghost use Rattle.history.specs.Hearing.{IsOutcomeTaken, IsRowTaken, SaysTaken, SaysNotTaken, IsToldNotTaken};

@@ -1,6 +1,6 @@
 //! What stands at a place of a history.
 
-ghost use Rattle.std.specs.Prelude.{◌≡◌, ◌+◌, ◌^◌, ◌<◌, ◌≤◌, ◌↔◌, ℕ, Some, length, IsTrue, slice_get, All};
+ghost use Rattle.std.specs.Prelude.{◌+◌, ◌^◌, ◌<◌, ◌≤◌, ◌↔◌, length, IsTrue, All};
 ghost use Rattle.events.specs.declared.event.Event.{Event};
 ghost use Rattle.events.specs.History.{BeginsAt, EndsAt, Precedes, IsOpenFrom, IsUnderWay, IsDown, MayStand};
 ghost use Rattle.events.specs.History.{IsDurable, IsNumbered, IsUnnumbered, IsHistory};

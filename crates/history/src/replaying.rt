@@ -1,6 +1,6 @@
 //! The replay of an order, by what was ever in the queue.
 
-ghost use Rattle.std.specs.Prelude.{◌≡◌, ◌<◌, ◌≤◌, ◌↔◌, ◌++◌, length, IsTrue, option_to_list, slice_get};
+ghost use Rattle.std.specs.Prelude.{◌≡◌, ◌<◌, ◌≤◌, ◌↔◌, ◌++◌, IsTrue, option_to_list, slice_get};
 ghost use Rattle.words.specs.PlainQueue.{reply_of};
 ghost use Rattle.history.specs.Counting.{HasAllButFirst, values_of_call, values_of_order, dequeue_count};
 ghost use Rattle.events.specs.Replay.{call_at, queue_after, IsServed, Replays};

@@ -1,6 +1,6 @@
 //! What clients are told at a Ready.
 
-ghost use Rattle.std.specs.Prelude.{◌≡◌, ◌<◌, ◌≤◌, ◌↔◌, ◌⊎◌, Some, All, EachIndex, length, IsTrue, slice_get};
+ghost use Rattle.std.specs.Prelude.{◌≡◌, ◌<◌, ◌≤◌, ◌↔◌, Some, All, EachIndex, length, IsTrue, slice_get};
 ghost use Rattle.events.specs.Telling.{IsToldOf, BeginsTaken, IsOutcome, IsRow, Says, TellsRightly, TellsAt};
 ghost use Rattle.events.specs.Telling.{IsToldTaken, IsToldIfInterrupted};
 ghost use Rattle.history.specs.Listening.{HearsBase, HearsOfCall, HearsOfSome, IsToldRightly, TakesNone};

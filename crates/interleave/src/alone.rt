@@ -1,6 +1,6 @@
 //! A call that goes on alone.
 
-ghost use Rattle.std.specs.Prelude.{◌≡◌, ◌≤◌, ◌+◌, ◌⊎◌, is_some, slice_get, slice_index_or, true, Err, None, IfOk, IfErr};
+ghost use Rattle.std.specs.Prelude.{◌≡◌, ◌+◌, slice_index_or, None, IfOk, IfErr};
 ghost use Rattle.interleave.specs.Asked.{IfCallAsked, IsLentAlone};
 ghost use Rattle.interleave.specs.Core.{state_of};
 ghost use Rattle.interleave.specs.Holds.{Holds};

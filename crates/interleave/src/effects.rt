@@ -1,6 +1,6 @@
 //! Effects that wait to count.
 
-ghost use Rattle.std.specs.Prelude.{◌≡◌, ◌≤◌, length, vec_capacity, MatchOption};
+ghost use Rattle.std.specs.Prelude.{◌≡◌, vec_capacity, MatchOption};
 ghost use Rattle.events.specs.Effects.{without_pending, with_settled, is_pending_at};
 ghost use Rattle.interleave.specs.Effects.{AreInSequence, HasNoneUnsettled, IsUnsettledAt};
 

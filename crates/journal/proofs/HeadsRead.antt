@@ -8,7 +8,7 @@ use Rattle.std.proofs.lemmas.List.{append_assoc, drop_at, drop-drop, length-appe
 use Rattle.std.proofs.lemmas.List.Concat.{flat_map-cons}
 use Rattle.std.proofs.lemmas.List.Elements.{All-head, All-tail}
 use Rattle.std.proofs.lemmas.Nat.{from_le_bytes-to_le_bytes_8}
-use Rattle.persist.specs.Image.{AreWords, image_of}
+use Rattle.persist.specs.Image.{AreWords}
 use Rattle.persist.specs.Image as image
 use Rattle.persist.specs.declared.memory.TheConstants.{MAX_WORDS}
 use Rattle.journal.specs.Sum.{sum_of}

@@ -2,7 +2,7 @@
 
 ghost use Rattle.std.specs.Prelude.{◌≡◌, ◌+◌, ◌<◌, ◌≤◌, length, map, drop, take, Ok, Err, IfOk, IfErr, IfSome, IfNone};
 ghost use Rattle.std.specs.Int.{w64, from_le_bytes};
-ghost use Rattle.journal.specs.Reading.{begins_as_journal, has_its_sum, head_reading, head_size, key_at, sum_at, words_count, word_bytes};
+ghost use Rattle.journal.specs.Reading.{begins_as_journal, head_reading, head_size, key_at, sum_at, words_count, word_bytes};
 
 use crate::checksum::checksum;
 use crate::fault::Fault;

@@ -1,6 +1,6 @@
 //! What bytes are read as.
 
-ghost use Rattle.std.specs.Prelude.{◌≡◌, ◌≤◌, ◌<◌, ◌↔◌, length, map, Ok, Err, IfOk, IfErr, IsTrue};
+ghost use Rattle.std.specs.Prelude.{◌≡◌, ◌<◌, ◌↔◌, map, Ok, Err, IfOk, IfErr, IsTrue};
 ghost use Rattle.std.specs.Int.{w64, from_le_bytes};
 ghost use Rattle.journal.specs.Reading.{HidesKept, ReadsAs, reading, IsWhyUnread};
 

@@ -127,7 +127,7 @@ impl Model for Writer {
 
 impl Writer {
     ghost use Rattle.journal.specs.Frame.{IsBatchIn};
-    ghost use Rattle.journal.specs.Journal.{MayNotBegin, MayRefuseBase, MayRefuseFrame, end_behind, end_of, frame_behind};
+    ghost use Rattle.journal.specs.Journal.{MayRefuseBase, MayRefuseFrame, end_behind, end_of, frame_behind};
     ghost use Rattle.persist.specs.Image.{AreWords};
 
     /// The head of a journal of these words, as bytes, and where it goes on. It is refused where there is no word, or

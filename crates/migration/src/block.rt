@@ -1,12 +1,10 @@
 //! The block of a queue of items, from the words of one of the form of values.
 
-ghost use Rattle.std.specs.Prelude.{◌≡◌, ◌++◌, ℕ, OnOk};
+ghost use Rattle.std.specs.Prelude.{◌≡◌, ◌++◌, OnOk};
 ghost use Rattle.std.specs.Int.{w32, to_le_bytes};
 ghost use Rattle.words.specs.declared.call.Kind.TheVariants.{Durable};
-ghost use Rattle.arena.specs.Layout.{place_in};
 ghost use Rattle.arena.specs.Place.{IsNode, IsPlace, IsRecord};
-ghost use Rattle.arena.specs.Shape.{Counts};
-ghost use Rattle.arena.specs.declared.form.Form.TheVariants.{OfItems, OfValues};
+ghost use Rattle.arena.specs.declared.form.Form.TheVariants.{OfValues};
 ghost use Rattle.arena.specs.declared.place.Place.TheVariants.{Cell, Item};
 ghost use Rattle.sound_words.specs.Kept.{kept_of};
 ghost use Rattle.sound_words.specs.Order.{IsSurveyOf};

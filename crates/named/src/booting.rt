@@ -1,6 +1,6 @@
 //! A broker that begins on what a memory keeps.
 
-ghost use Rattle.std.specs.Prelude.{◌≡◌, ◌≢◌, ◌↔◌, ◌⊎◌, ◌<◌, ◌≤◌, ◌+◌, ℕ, true, length, replicate, slice_set, Ok, Err, IfOk, IfErr, OnOk, OnErr, IfSome, IfNone, IsSome, None, if◌then◌else◌};
+ghost use Rattle.std.specs.Prelude.{◌≡◌, ◌<◌, ◌≤◌, length, Ok, IfOk, IfErr, OnOk, None};
 ghost use Rattle.arena.specs.Broker.{broker_size_in};
 ghost use Rattle.named.specs.Booting.{AreBootWords, AreBootWordsIn, AreRead, AreReadIn, IsBlockDamagedIn, IsBooted, IsDamagedFor, IsSoundFor, MayRefuse};
 ghost use Rattle.named.specs.Promises.{KeepsPromises};

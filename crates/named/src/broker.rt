@@ -1,9 +1,8 @@
 //! A broker of named queues.
 
-ghost use Rattle.std.specs.Prelude.{◌≡◌, ◌↔◌, ◌⊎◌, ◌<◌, ◌≤◌, length, replicate, slice_set, Err, IfOk, IfErr, OnOk};
+ghost use Rattle.std.specs.Prelude.{◌≡◌, ◌↔◌, ◌⊎◌, ◌<◌, length, slice_set, Err, IfOk, IfErr, OnOk};
 ghost use Rattle.arena.specs.Limits.{AreBadRecords, AreCounts};
 ghost use Rattle.named.specs.Brokers.{counts_of, new_words, IsNew};
-ghost use Rattle.named.specs.declared.slot.Slot.TheVariants.{Closed};
 ghost use Rattle.named.specs.Promises.{KeepsPromises};
 
 use crate::recovery::BrokerRecovery;

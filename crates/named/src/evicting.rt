@@ -1,6 +1,6 @@
 //! An eviction from the memory of a broker.
 
-ghost use Rattle.std.specs.Prelude.{◌≡◌, ◌≢◌, ◌↔◌, ◌⊎◌, ◌<◌, ◌≤◌, ◌+◌, ℕ, true, length, replicate, slice_set, Ok, Err, IfOk, IfErr, OnOk, OnErr, IfSome, IfNone, IsSome, None, MatchOption, if◌then◌else◌};
+ghost use Rattle.std.specs.Prelude.{◌≡◌, ◌<◌, ℕ, None, MatchOption};
 ghost use Rattle.persist.specs.Memory.{words_after_eviction};
 ghost use Rattle.named.specs.Blocks.{IsSameWords};
 ghost use Rattle.named.specs.Brokers.{room_at};

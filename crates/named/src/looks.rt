@@ -1,6 +1,6 @@
 //! What the queues of a broker have: what happened, what they hold, and what their clients were told.
 
-ghost use Rattle.std.specs.Prelude.{◌≡◌, ◌≢◌, ◌<◌, ◌≤◌, ℕ, slice_get, Ok, Err, IfOk, IfErr, OnOk, OnErr, IsSome, Some, None};
+ghost use Rattle.std.specs.Prelude.{◌≡◌, ◌≢◌, ◌<◌, ◌≤◌, ℕ, slice_get, Ok, Err, IfOk, IfErr, OnOk, IsSome, Some, None};
 ghost use Rattle.persist.specs.Image.{image_of, reading};
 ghost use Rattle.interleave.specs.Queue.{told_in, told_to};
 ghost use Rattle.interleave.specs.State.{kept_content, order_in};

@@ -1,6 +1,6 @@
 //! A broker that begins on what a memory of the form of values keeps.
 
-ghost use Rattle.std.specs.Prelude.{◌≡◌, IfErr, IfOk, OnOk};
+ghost use Rattle.std.specs.Prelude.{IfErr, IfOk, OnOk};
 ghost use Rattle.arena.specs.declared.form.Form.TheVariants.{OfValues};
 ghost use Rattle.named.specs.Booting.{AreBootWordsIn, MayRefuseIn};
 ghost use Rattle.named.specs.Migrating.{IsMigrated};

@@ -1,6 +1,6 @@
 //! The names of a broker's queues, and how a queue comes to be.
 
-ghost use Rattle.std.specs.Prelude.{◌≡◌, ◌≢◌, ◌↔◌, ◌⊎◌, ◌<◌, ◌≤◌, ◌+◌, ℕ, true, length, replicate, slice_set, Ok, Err, IfOk, IfErr, OnOk, OnErr, IfSome, IfNone, IsSome, None, if◌then◌else◌};
+ghost use Rattle.std.specs.Prelude.{◌≡◌, ◌≢◌, ◌<◌, ◌≤◌, ℕ, true, length, Ok, Err, IfOk, IfErr, OnOk, OnErr, IfSome, IfNone, IsSome, None, if◌then◌else◌};
 ghost use Rattle.directory.specs.Directory.{IsDirectory, IsNamed, HasName};
 ghost use Rattle.named.specs.Finding.{IsPlaced};
 ghost use Rattle.persist.specs.Memory.{asked_through, seen_whole};

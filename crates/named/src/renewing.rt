@@ -1,6 +1,6 @@
 //! Queues in fresh records: of a broker that begins on what another keeps, and of one at rest.
 
-ghost use Rattle.std.specs.Prelude.{◌≡◌, ◌≤◌, ◌<◌, ℕ, Err, IfErr, IfOk, OnErr, OnOk};
+ghost use Rattle.std.specs.Prelude.{◌≡◌, ◌<◌, Err, IfErr, IfOk, OnErr, OnOk};
 ghost use Rattle.named.specs.Brokers.{counts_of};
 ghost use Rattle.named.specs.Promises.{KeepsPromises};
 ghost use Rattle.named.specs.Renewing.{DoesNotFit, HasRoomInEach, IsAnewFor, IsRenewed, IsRenewedAt, IsWhyNotRenewedAt, IsWhyUnrenewed, MayRenew};

@@ -1,6 +1,6 @@
 //! A rotation of a broker: the histories of all its queues end, and others begin.
 
-ghost use Rattle.std.specs.Prelude.{◌≡◌, ◌≢◌, ◌↔◌, ◌⊎◌, ◌<◌, ◌≤◌, ◌+◌, ℕ, true, length, replicate, slice_set, Ok, Err, IfOk, IfErr, OnOk, OnErr, IfSome, IfNone, IsSome, None, if◌then◌else◌};
+ghost use Rattle.std.specs.Prelude.{◌≡◌, ◌<◌, ◌≤◌, ℕ, Ok, Err, OnErr};
 ghost use Rattle.interleave.specs.Calls.{is_no_memory};
 ghost use Rattle.named.specs.Brokers.{room_at};
 ghost use Rattle.named.specs.Promises.{KeepsPromises};

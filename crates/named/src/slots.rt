@@ -1,8 +1,7 @@
 //! The slots of a broker, one after the other.
 
-ghost use Rattle.std.specs.Prelude.{◌≡◌, ◌<◌, ◌≤◌, ◌+◌, ℕ, length, replicate, IfOk, IfErr, OnOk, OnErr};
+ghost use Rattle.std.specs.Prelude.{◌≡◌, ◌<◌, replicate, IfOk, IfErr, OnOk, OnErr};
 ghost use Rattle.std.specs.List.{list_any};
-ghost use Rattle.persist.specs.Memory.{Words, words_after_crash};
 ghost use Rattle.named.specs.Booting.{AreBootWords, AreKept, AreSlotsBooted, IsBootedBy};
 ghost use Rattle.named.specs.Each.{EachBecame, EachSlot, HasFullSlot, HasMoreRoom, HasOtherRoom, HasStopped};
 ghost use Rattle.named.specs.Slots.{AreEffectsFew, HasEmptyHistory, HasRoomFor};

@@ -1,11 +1,10 @@
 //! A crash of a broker, and the steps of its recovery.
 
-ghost use Rattle.std.specs.Prelude.{◌≡◌, ◌≢◌, ◌↔◌, ◌⊎◌, ◌<◌, ◌≤◌, ◌+◌, ℕ, true, is_none, length, replicate, slice_get, slice_set, Some, Ok, Err, IfOk, IfErr, OnOk, OnErr, IfSome, IfNone, IsSome, None, if◌then◌else◌};
+ghost use Rattle.std.specs.Prelude.{◌≡◌, ◌<◌, ◌≤◌, ◌+◌, ℕ, true, is_none, Some, Ok, Err, IfOk, OnErr, IfSome, None};
 ghost use Rattle.persist.specs.Noted.{answer_in, change_in, IsNoted};
 ghost use Rattle.interleave.specs.Calls.{is_no_memory};
 ghost use Rattle.interleave.specs.State.{crash_result};
 ghost use Rattle.directory.specs.Queue.{IsOpenSlot};
-ghost use Rattle.directory.specs.Directory.{Directory as AnyDirectory, HasQueue};
 ghost use Rattle.named.specs.Brokers.{Brokered, IsWell, room_at};
 ghost use Rattle.named.specs.Stopping.{HasFullQueue, IsDirectoryRead, IsFound, IsNext, IsQueueRecovered, IsReadOn};
 ghost use Rattle.named.specs.Stopping.{IsKnownByKept, IsReadingDirectory, IsRecoveryStep, IsSameButRoom, IsStopped, MayReadOn, creation_after};

@@ -1,7 +1,7 @@
 //! What noted changes make of words.
 // A law's clause begins with all that it speaks of, so some of them are longer than 120 columns.
 
-ghost use Rattle.std.specs.Prelude.{◌≡◌, ◌++◌, [], List, Option, ℕ};
+ghost use Rattle.std.specs.Prelude.{◌++◌, [], List, Option, ℕ};
 ghost use Rattle.persist.specs.Noted.{changes_in, IsNoted};
 ghost use Rattle.persist.specs.declared.access.Change.{Change};
 ghost use Rattle.notes.specs.Noting.{HasNoted, IsMadeBy};

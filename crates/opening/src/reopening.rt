@@ -1,8 +1,7 @@
 //! How a broker goes on, on the words that a journal leaves.
 
-ghost use Rattle.std.specs.Prelude.{◌≡◌, ◌⊎◌, IfErr, IfOk};
+ghost use Rattle.std.specs.Prelude.{IfErr, IfOk};
 ghost use Rattle.persist.specs.Memory.{words_at_rest};
-ghost use Rattle.named.specs.Booting.{MayRefuse};
 ghost use Rattle.named.specs.Brokers.{counts_of};
 ghost use Rattle.named.specs.Promises.{KeepsPromises};
 ghost use Rattle.session.specs.Sessions.{IsUncalled};

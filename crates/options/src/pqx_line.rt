@@ -5,8 +5,8 @@ ghost use Rattle.std.specs.Result.{OkIff};
 ghost use Rattle.clap.specs.Words.{first_value, found_of, subcommand_rows_of};
 ghost use Rattle.options.specs.declared.limits.TheConstants.{DEFAULT_DRAW, MAX_DRAW, MAX_POINT};
 ghost use Rattle.options.specs.Numbers.{Fits, IsNumberGiven, decimal_value, given_text};
-ghost use Rattle.options.specs.PqxAsked.{AllFit, AreTaken, Asks, AsksBrokerPoints, AsksCheck, AsksRun};
-ghost use Rattle.options.specs.PqxAsked.{Chooses, IsChoice, IsTask, CommandAsks, CommandFits};
+ghost use Rattle.options.specs.PqxAsked.{AllFit, Asks, AsksBrokerPoints, AsksCheck, AsksRun};
+ghost use Rattle.options.specs.PqxAsked.{Chooses, IsChoice, CommandAsks, CommandFits};
 
 use crate::limits::DEFAULT_DRAW;
 use crate::pqx::{BrokerPointOptions, CheckOptions, Choice, PointOptions, PqxAsked, RunOptions};

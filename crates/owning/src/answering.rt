@@ -1,6 +1,5 @@
 //! What each request is answered.
 
-ghost use Rattle.std.specs.Prelude.{◌≡◌, Option, Some, None};
 ghost use Rattle.owning.specs.Answers.{answer_as, IsAnswered, IsListing};
 ghost use Rattle.owning.specs.Recovering.{IsCrash};
 ghost use Rattle.owning.specs.Serving.{GoesOnRight};

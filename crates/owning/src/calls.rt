@@ -1,7 +1,7 @@
 //! Puts and takes, and what a client was last told.
 
 ghost use Rattle.std.specs.Prelude.{◌≡◌, Option, Some};
-ghost use Rattle.owning.specs.Answers.{client_in, IsCall, IsCallBy, IsCalled, IsPlaced, IsTelling, IsTellingBy};
+ghost use Rattle.owning.specs.Answers.{client_in, IsCallBy, IsCalled, IsPlaced, IsTellingBy};
 ghost use Rattle.owning.specs.Serving.{GoesOnRight};
 ghost use Rattle.session.specs.Promises.{KeepsNumbers};
 

@@ -1,6 +1,6 @@
 -- What a memory answers and leaves where it completes a request that may be for a word outside a part, as the part
 -- shows it.
-use Rattle.std.proofs.Common.{◌≡◌, ℕ, ◌+◌, ◌-◌, ◌<◌, ◌≤◌, inl, inr, Bool, true, false, Option, Some, None, Result, Ok, Err, IfOk, IfSome, List, take, drop, slice_index, slice_set, if◌then◌else◌, ◌==◌, refl, ap, ◌∙◌, subst, arith}
+use Rattle.std.proofs.Common.{◌≡◌, ℕ, ◌+◌, ◌-◌, ◌<◌, ◌≤◌, inl, inr, Bool, true, false, Option, Some, None, Result, Ok, Err, IfOk, IfSome, take, drop, slice_index, slice_set, if◌then◌else◌, ◌==◌, refl, ap, ◌∙◌, subst, arith}
 use Rattle.words.specs.declared.refusal.Refusal.{Refusal}
 use Rattle.persist.specs.Changes.{change_at, change_from, change_of, fence_result}
 use Rattle.persist.specs.Completed.{completed_request, completed_result, completed_words}

@@ -1,6 +1,6 @@
 //! The list of the words whose cached value is not the kept one.
 
-ghost use Rattle.std.specs.Prelude.{◌≡◌, ◌<◌, ◌≤◌, ◌++◌, ◌∷◌, [], length, insert, Ok, Err, IfOk, IfErr, None};
+ghost use Rattle.std.specs.Prelude.{◌≡◌, ◌<◌, ◌≤◌, ◌++◌, ◌∷◌, [], length, insert, Ok, Err, IfOk, IfErr};
 ghost use Rattle.persist.specs.ChangeList.{value_of, word_at, IsAscending, IsEntryOf, IsGapFor, SetsOnly, RemovesOnly};
 
 use std::alloc::{AllocError, Global};

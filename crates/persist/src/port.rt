@@ -1,6 +1,6 @@
 //! A memory, lent through one of its ports.
 
-ghost use Rattle.std.specs.Prelude.{◌≡◌, ◌<◌, length};
+ghost use Rattle.std.specs.Prelude.{◌≡◌, ◌<◌};
 ghost use Rattle.persist.specs.Memory.{lent_whole};
 ghost use Rattle.persist.specs.declared.memory.TheConstants.{PORTS};
 

@@ -1,6 +1,6 @@
 //! Serving with a journal.
 
-ghost use Rattle.std.specs.Prelude.{IfOk, IfSome};
+ghost use Rattle.std.specs.Prelude.{IfOk};
 ghost use Rattle.opening.specs.Sessions.{IsUncalled};
 
 use crate::{Fault, broker_for, fill_places, listener_at, service_of};

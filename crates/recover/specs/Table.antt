@@ -9,7 +9,6 @@ use Rattle.words.specs.declared.call.Token.{Token}
 use Rattle.words.specs.declared.call.Reply.{Reply}
 use Rattle.words.specs.declared.call.Reply.TheVariants.{Done, Got, Empty}
 use Rattle.words.specs.declared.told.Outcome.TheVariants.{NotTaken, Taken}
-use Rattle.words.specs.declared.told.Row.{Row}
 use Rattle.words.specs.declared.told.Row.TheVariants.{Open, Empty as row_empty, Got as row_got}
 use Rattle.words.specs.declared.told.Told.{Told}
 use Rattle.words.specs.declared.told.Told.TheVariants.{None as told_none, Verdict as told_verdict, Row as told_row}

@@ -1,8 +1,7 @@
 //! The words of a queue's block, written anew.
 
-ghost use Rattle.std.specs.Prelude.{◌≡◌, ◌↔◌, ◌⊎◌, ◌≤◌, ◌+◌, ◌*◌, ◌^◌, IfOk, IfErr, IsTrue, OnOk, Err};
+ghost use Rattle.std.specs.Prelude.{◌≡◌, ◌↔◌, ◌⊎◌, ◌≤◌, ◌+◌, ◌*◌, IfOk, IfErr, IsTrue, OnOk, Err};
 ghost use Rattle.arena.specs.Limits.{AreCounts};
-ghost use Rattle.arena.specs.Shape.{greatest};
 ghost use Rattle.sound_words.specs.Sound.{AreSoundWords};
 ghost use Rattle.renewal.specs.Words.{FitFresh, IsRenewalOf, ItemsFit, words_renewed};
 

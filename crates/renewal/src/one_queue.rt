@@ -1,6 +1,6 @@
 //! The words of a whole broker, one queue in fresh records.
 
-ghost use Rattle.std.specs.Prelude.{◌≡◌, ◌+◌, ◌<◌, ◌≤◌, ◌⊎◌, Err, IfErr, IfOk, OnOk, Some, length};
+ghost use Rattle.std.specs.Prelude.{◌≡◌, ◌<◌, ◌≤◌, ◌⊎◌, Err, IfErr, IfOk, OnOk, Some, length};
 ghost use Rattle.arena.specs.Broker.{broker_size};
 ghost use Rattle.directory.specs.Sound.{counts_in};
 ghost use Rattle.renewal.specs.Broker.{BlockFits, HasSoundBlock, MayBeRenewedTo};

@@ -1,6 +1,6 @@
 -- A client learns each answer by its object.
 use Rattle.std.proofs.Common.{◌≡◌, ◌∙◌, ℕ, List, [], ◌∷◌, Option, Some, None, refl, sym, ap}
-use Rattle.std.specs.Prelude.{◌==◌, Bool, codes, if◌then◌else◌, is_some, option_and_then, option_map}
+use Rattle.std.specs.Prelude.{Bool, codes, if◌then◌else◌, is_some, option_and_then, option_map}
 use Rattle.std.specs.Str.{bytes_eq}
 use Rattle.serde_json.specs.Data.{Data, Items, no_items, item, array, object}
 use Rattle.serde_json.specs.Find.{get}

@@ -1,6 +1,6 @@
 //! The reports on a script, as text.
 
-ghost use Rattle.std.specs.Prelude.{◌≡◌, ◌<◌, ◌≤◌, ◌++◌, OnOk, IfOk, IfErr, length, string_bytes};
+ghost use Rattle.std.specs.Prelude.{◌≡◌, ◌<◌, ◌≤◌, ◌++◌, OnOk, IfOk, IfErr, string_bytes};
 ghost use Rattle.words.specs.declared.limits.TheConstants.{MAX_CLIENTS};
 ghost use Rattle.playing.specs.Prints.{values_text};
 ghost use Rattle.script_reports.specs.Reports.{calls_text, content_text, end_text, steps_text, told_all_text, line_of, points_text, stopped_text, text_of_report, most_steps as most_steps_of};

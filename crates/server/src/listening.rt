@@ -1,6 +1,6 @@
 //! Serving connections.
 
-ghost use Rattle.std.specs.Prelude.{◌≡◌, IfErr, IfOk};
+ghost use Rattle.std.specs.Prelude.{IfErr, IfOk};
 ghost use Rattle.session.specs.Sessions.{IsUncalled};
 ghost use Rattle.workers.specs.Opening.{IsNameOf};
 ghost use Rattle.serving.specs.Image.{IsBusyOrNoMemory, IsImageAfter, IsImageLeftBy};

@@ -1,7 +1,5 @@
 //! How it is said that no more connections are taken.
 
-ghost use Rattle.std.specs.Prelude.{◌≡◌};
-
 use crossbeam_channel::{Receiver, Sender, bounded};
 use std::alloc::{AllocError, Global};
 use std::sync::Wait;

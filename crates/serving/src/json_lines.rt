@@ -1,6 +1,5 @@
 //! Lines of JSON.
 
-ghost use Rattle.std.specs.Prelude.{◌≡◌};
 ghost use Rattle.requests.specs.Line.{meaning};
 
 use engine::Reading;

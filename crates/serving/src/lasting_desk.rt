@@ -1,8 +1,7 @@
 //! The desk of a connection over a journal: a reply is written once the journal has what it tells of.
 
-ghost use Rattle.std.specs.Prelude.{◌≡◌, [], IfOk, IfSome, None, refl};
+ghost use Rattle.std.specs.Prelude.{◌≡◌, [], IfOk, refl};
 ghost use Rattle.chronicle.specs.Chronicled.{entries};
-ghost use Rattle.desk.specs.Telling.{AreReplied};
 
 use desk::MarkingDesk;
 use devices::Failed;

@@ -1,8 +1,6 @@
 //! What is kept of each client in each queue.
 
-ghost use Rattle.std.specs.Prelude.{◌≡◌, ◌≢◌, ◌<◌, ◌≤◌, ◌⊎◌, ℕ, Ok, Some, None, length};
-ghost use Rattle.interleave.specs.Queue.{told_in, told_to};
-ghost use Rattle.named.specs.Brokers.{answer_at};
+ghost use Rattle.std.specs.Prelude.{◌≡◌, ◌<◌, ℕ, Ok, Some, None, length};
 ghost use Rattle.named.specs.Promises.{KeepsPromises};
 ghost use Rattle.session.specs.Answering.{IsHeardNow};
 ghost use Rattle.session.specs.Keeping.{verdict_heard, AreKeptAsHeard, IsKeptNow, IsRowHeard};

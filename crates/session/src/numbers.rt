@@ -1,7 +1,7 @@
 //! What a client's number comes to, by the last one.
 
 ghost use Rattle.std.specs.Prelude.{◌≡◌};
-ghost use Rattle.session.specs.Numbers.{by_last, by_number, by_outcome};
+ghost use Rattle.session.specs.Numbers.{by_number, by_outcome};
 
 use words::{Outcome, Refusal, Reply, Verdict};
 

@@ -1,6 +1,6 @@
 //! The queues of a session's broker.
 
-ghost use Rattle.std.specs.Prelude.{◌≡◌, ◌≢◌, ◌<◌, ◌≤◌, ℕ, true, Err, None, IfErr, IfOk, IfSome, IsSome, OnErr, OnOk};
+ghost use Rattle.std.specs.Prelude.{◌≡◌, ◌≢◌, ◌<◌, ◌≤◌, ℕ, true, Err, None, IfErr, IfSome, IsSome, OnErr, OnOk};
 ghost use Rattle.persist.specs.Noted.{answer_in, change_in, IsNoted};
 ghost use Rattle.interleave.specs.Calls.{is_no_memory};
 ghost use Rattle.named.specs.Brokers.{is_down, room_at, world_at, AreUnopenedQuiet, IsBegun, IsCreationStep, IsNotCreated, MayCreate};

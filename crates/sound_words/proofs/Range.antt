@@ -1,15 +1,13 @@
 -- What follows from sound words: the words that recovery and calls read are in range; and all words zero are sound.
 use Rattle.std.proofs.Common.{◌≡◌, ℕ, ◌+◌, ◌≤◌, ◌<◌, inl, inr, refl, ◌∙◌, ap, subst, arith}
 use Rattle.std.proofs.lemmas.Bool.{cases_eq, cases_lt}
-use Rattle.words.specs.PlainQueue.{FitsValue}
 use Rattle.words.specs.declared.call.Kind.{Kind}
 use Rattle.words.specs.declared.call.Kind.TheVariants.{Durable, Log}
 use Rattle.arena.specs.Shape.{Shape, greatest}
 use Rattle.arena.specs.Place.{IsPlace, IsNode, IsRecord}
 use Rattle.arena.specs.Ranges.{Fits}
-use Rattle.arena.specs.Words.{links, marks, values, values_fit, cells, inserts, numbers, entry_kinds, statuses, entry_nodes, announcements}
+use Rattle.arena.specs.Words.{links, marks, cells, inserts, numbers, entry_kinds, statuses, entry_nodes, announcements}
 use Rattle.arena.specs.Content.{chain_of}
-use Rattle.arena.specs.declared.place.Part.TheVariants.{Length, First, Second, Third}
 use Rattle.arena.specs.declared.form.Form.{Form}
 use Rattle.arena.specs.declared.place.Place.{Place}
 use Rattle.arena.specs.declared.place.Place.TheVariants.{Head, Tail, Announcement, Bump, Item, Next, Mark, Cell, Insert, Number, EntryKind, Status, EntryNode}

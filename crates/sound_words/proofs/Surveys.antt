@@ -4,7 +4,7 @@ use Rattle.std.specs.Prelude.{IsTrue}
 use Rattle.std.proofs.lemmas.Bool.{cases_eq, false≢true}
 use Rattle.arena.specs.Shape.{Shape, greatest}
 use Rattle.arena.specs.Place.{IsClient, IsRecord}
-use Rattle.arena.specs.Words.{links, marks, values, cells}
+use Rattle.arena.specs.Words.{links, marks, cells}
 use Rattle.arena.specs.Chain.{IsChain, IsAmong, LeadsTo}
 use Rattle.arena.specs.Content.{chain_of}
 use Rattle.arena.specs.declared.form.Form.{Form}

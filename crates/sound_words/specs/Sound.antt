@@ -13,7 +13,7 @@ use Rattle.arena.specs.Broker.{block_size_in}
 use Rattle.arena.specs.Form.{running}
 use Rattle.arena.specs.Layout.{size_in}
 use Rattle.sound_words.specs.Kept.{kept_by}
-use Rattle.arena.specs.Shape.{Shape, greatest, record_of, owner}
+use Rattle.arena.specs.Shape.{Shape, record_of, owner}
 use Rattle.arena.specs.Place.{IsClient, IsNode, IsRecord}
 use Rattle.arena.specs.Words.{links, marks, part_at, HoldsIn, IsBlankItemIn, inserts, cells, numbers, entry_kinds, statuses, entry_nodes, bumps, announcements}
 use Rattle.arena.specs.Chain.{IsChain, IsAmong, LeadsTo}

@@ -1,10 +1,10 @@
 //! Whether the chain is sound, and where each node stands on it.
 
-ghost use Rattle.std.specs.Prelude.{◌≡◌, ◌≢◌, ℕ, ◌≤◌, ◌<◌, ◌↔◌, length, slice_index, IsTrue};
-ghost use Rattle.arena.specs.Place.{IsPlace, IsRecord};
+ghost use Rattle.std.specs.Prelude.{◌≡◌, ◌≢◌, ℕ, ◌<◌, ◌↔◌, length, slice_index, IsTrue};
+ghost use Rattle.arena.specs.Place.{IsRecord};
 ghost use Rattle.arena.specs.Shape.{greatest};
 ghost use Rattle.sound_words.specs.Kept.{kept_of};
-ghost use Rattle.sound_words.specs.Sound.{EachRecord, IsLoose, IsLooseIfOff, IsSentinelIn, ChainIsSoundIn};
+ghost use Rattle.sound_words.specs.Sound.{EachRecord, IsLooseIfOff, IsSentinelIn, ChainIsSoundIn};
 ghost use Rattle.sound_words.specs.Order.{IsRun, IsOrder};
 
 use crate::kept::KeptQueue;

@@ -1,7 +1,7 @@
 //! Whether claims are sound, and what each token claims; and whether the head and the tail are.
 
-ghost use Rattle.std.specs.Prelude.{◌≡◌, ◌≢◌, ℕ, ◌≤◌, ◌<◌, ◌↔◌, ◌⊎◌, length, slice_index, IsTrue};
-ghost use Rattle.arena.specs.Place.{IsPlace, IsNode, IsRecord};
+ghost use Rattle.std.specs.Prelude.{◌≡◌, ℕ, ◌<◌, ◌↔◌, length, slice_index, IsTrue};
+ghost use Rattle.arena.specs.Place.{IsNode, IsRecord};
 ghost use Rattle.arena.specs.Shape.{greatest};
 ghost use Rattle.arena.specs.Words.{HoldsIn};
 ghost use Rattle.sound_words.specs.Kept.{kept_of};

@@ -1,9 +1,8 @@
 //! Whether the logs and entries of a log queue are sound.
 
-ghost use Rattle.std.specs.Prelude.{◌≡◌, ◌≢◌, ℕ, ◌≤◌, ◌<◌, ◌↔◌, ◌⊎◌, length, slice_index, IsTrue};
-ghost use Rattle.arena.specs.Place.{IsPlace, IsRecord, IsClient};
+ghost use Rattle.std.specs.Prelude.{◌≡◌, ℕ, ◌<◌, ◌↔◌, IsTrue};
+ghost use Rattle.arena.specs.Place.{IsRecord, IsClient};
 ghost use Rattle.arena.specs.Shape.{greatest};
-ghost use Rattle.arena.specs.Words.{entry_kinds, entry_nodes};
 ghost use Rattle.words.specs.declared.call.Kind.TheVariants.{Log};
 ghost use Rattle.sound_words.specs.Kept.{kept_of};
 ghost use Rattle.sound_words.specs.Sound.{ChainIsSoundIn, EachRecord, ClaimsAreSoundIn, EndsAreSound, EntriesAreSound, LogIsSound, IsAnnounced, IsOwn, IsOfSomeCall, StatusIsSound, RemovedIsSound};

@@ -1,7 +1,7 @@
 //! Whether records that are not used are blank.
 
-ghost use Rattle.std.specs.Prelude.{◌≡◌, ℕ, ◌≤◌, ◌↔◌, length, IsTrue};
-ghost use Rattle.arena.specs.Place.{IsPlace, IsRecord, IsClient};
+ghost use Rattle.std.specs.Prelude.{◌≡◌, ℕ, ◌≤◌, ◌↔◌, IsTrue};
+ghost use Rattle.arena.specs.Place.{IsRecord, IsClient};
 ghost use Rattle.arena.specs.Words.{bumps};
 ghost use Rattle.words.specs.declared.call.Kind.TheVariants.{Durable, Log};
 ghost use Rattle.sound_words.specs.Kept.{kept_of};

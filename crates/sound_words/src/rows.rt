@@ -1,6 +1,6 @@
 //! Whether the rows and cells of a durable queue are sound.
 
-ghost use Rattle.std.specs.Prelude.{◌≡◌, ◌≢◌, ℕ, ◌≤◌, ◌<◌, ◌↔◌, ◌⊎◌, length, slice_index, IsTrue};
+ghost use Rattle.std.specs.Prelude.{◌≡◌, ◌≢◌, ℕ, ◌<◌, ◌↔◌, slice_index, IsTrue};
 ghost use Rattle.arena.specs.Place.{IsNode, IsRecord, IsClient};
 ghost use Rattle.arena.specs.Shape.{greatest};
 ghost use Rattle.arena.specs.Words.{links};

@@ -1,6 +1,6 @@
 //! Whether kept words are sound.
 
-ghost use Rattle.std.specs.Prelude.{◌≡◌, ◌≢◌, ℕ, ◌≤◌, ◌<◌, ◌↔◌, length, slice_index, IsTrue, IsOk, IfErr, IfNone, IfOk};
+ghost use Rattle.std.specs.Prelude.{◌≡◌, ℕ, ◌≤◌, ◌<◌, ◌↔◌, length, slice_index, IsTrue, IsOk, IfErr, IfNone, IfOk};
 ghost use Rattle.arena.specs.Broker.{block_size_in};
 ghost use Rattle.arena.specs.Layout.{size_in};
 ghost use Rattle.arena.specs.Shape.{greatest};

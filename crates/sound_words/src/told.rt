@@ -1,6 +1,6 @@
 //! What kept words tell each client, without recovery.
 
-ghost use Rattle.std.specs.Prelude.{◌≡◌, ℕ, ◌≤◌, Bool, false, length, slice_index, slice_index_or};
+ghost use Rattle.std.specs.Prelude.{◌≡◌, ℕ, Bool, false, slice_index, slice_index_or};
 ghost use Rattle.arena.specs.Place.{IsClient, IsNode, IsRecord};
 ghost use Rattle.arena.specs.Words.{values};
 ghost use Rattle.arena.specs.declared.form.Form.TheVariants.{OfItems};

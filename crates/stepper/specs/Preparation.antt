@@ -21,9 +21,6 @@ use Rattle.stepper.specs.declared.resume.After.TheVariants.{More, Done}
 use Rattle.stepper.specs.declared.prepare.Begun.{Begun}
 use Rattle.stepper.specs.declared.prepare.Prepare.{Prepare}
 use Rattle.stepper.specs.declared.prepare.Prepare.TheVariants.{Store as store_next, Flush as flush_next, Fence as fence_next}
-use Rattle.stepper.specs.declared.prepare.PrepareStore.{PrepareStore}
-use Rattle.stepper.specs.declared.prepare.PrepareFlush.{PrepareFlush}
-use Rattle.stepper.specs.declared.prepare.PrepareFence.{PrepareFence}
 
 abbrev pub write : Place → ℕ → Write
 write place value = record { place = place; value = value }

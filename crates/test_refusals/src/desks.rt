@@ -1,6 +1,5 @@
 //! A desk, at which one line after another is served.
 
-ghost use Rattle.std.specs.Prelude.{◌≡◌};
 ghost use Rattle.workers.specs.Opening.{IsNameOf};
 
 use crate::again::{MOST_TRIES, empty_text, say_again};

@@ -1,6 +1,6 @@
 //! Readers and writers that fail in the middle of the story, and what stands then.
 
-ghost use Rattle.std.specs.Prelude.{◌≡◌, refl};
+ghost use Rattle.std.specs.Prelude.{refl};
 ghost use Rattle.chronicle.specs.Chronicled.{entries};
 ghost use Rattle.workers.specs.Opening.{IsNameOf};
 

@@ -1,6 +1,5 @@
 //! Connections that use one client's seat at the same time.
 
-ghost use Rattle.std.specs.Prelude.{◌≡◌};
 ghost use Rattle.workers.specs.Opening.{IsNameOf};
 
 use desk::BrokerDesk;

@@ -1,5 +1,5 @@
 -- What a broker shows of an open slot is explained.
-use Rattle.std.proofs.Common.{◌≡◌, refl, ℕ, Bool, true, List, Option, None, Some, Result, Ok, Err}
+use Rattle.std.proofs.Common.{◌≡◌, refl, Bool, true, List, Option, None, Some, Result, Ok, Err}
 use Rattle.std.specs.Prelude.{◌↔◌, IfOk, IsSome, IsTrue}
 use Rattle.words.specs.PlainQueue.{Value}
 use Rattle.words.specs.declared.refusal.Refusal.{Refusal}

@@ -1,6 +1,6 @@
 //! Crashes that come between two steps of a call, from another thread.
 
-ghost use Rattle.std.specs.Prelude.{◌≡◌, IfOk};
+ghost use Rattle.std.specs.Prelude.{IfOk};
 ghost use Rattle.workers.specs.Opening.{IsNameOf};
 ghost use Rattle.workers.specs.Seats.{AreAllInOrder};
 

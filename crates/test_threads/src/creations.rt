@@ -1,6 +1,5 @@
 //! Creations of queues beside another thread's and crashes.
 
-ghost use Rattle.std.specs.Prelude.{◌≡◌};
 ghost use Rattle.workers.specs.Opening.{IsNameOf};
 
 use crate::gates::{TURNS, rest, tell, wait_for};

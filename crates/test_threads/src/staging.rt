@@ -1,6 +1,6 @@
 //! How a test's session comes to be shared under a name, and what is looked at when it is taken back.
 
-ghost use Rattle.std.specs.Prelude.{◌≡◌, IfOk};
+ghost use Rattle.std.specs.Prelude.{IfOk};
 ghost use Rattle.workers.specs.Opening.{IsNameOf};
 ghost use Rattle.workers.specs.Seats.{AreAllInOrder};
 

@@ -1,6 +1,6 @@
 -- The words and the text of an item give it back.
 use Rattle.std.proofs.Common.{◌≡◌, ℕ, ◌+◌, ◌-◌, ◌*◌, ◌/◌, ◌%◌, ◌<◌, ◌≤◌, Bool, true, List, [], ◌∷◌, ◌++◌, get_or-drop, length, take, drop, get_or, suc, zero, Some, None, if◌then◌else◌, append_assoc, refl, ◌∙◌, ap, arith, inl, inr, ◌⊎◌}
-use Rattle.std.specs.Prelude.{◌==◌, ◌&&◌, replicate, min}
+use Rattle.std.specs.Prelude.{replicate, min}
 use Rattle.std.specs.List.{list_all}
 use Rattle.std.specs.Result.{result_ok}
 use Rattle.std.specs.Int.{w64, to_le_bytes}

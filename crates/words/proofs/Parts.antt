@@ -6,7 +6,7 @@ use Rattle.std.specs.Int.{w64, to_le_bytes}
 use Rattle.std.proofs.lemmas.Bool.{cases_lt, eqb-true, ltb-true, lt-ltb, leb-true, le-leb}
 use Rattle.std.proofs.lemmas.List.Sums.{AllPass-from_list_all}
 use Rattle.std.proofs.lemmas.List.{get_or-append_right, get_or-drop, get_or_past, length-take}
-use Rattle.words.specs.Item.{AreParts, IsItem, item_of, item_row, row_of, first_word, second_word, third_word, is_zero}
+use Rattle.words.specs.Item.{AreParts, IsItem, item_of, row_of, first_word, second_word, third_word, is_zero}
 use Rattle.words.specs.PlainQueue.{Value, FitsValue, fits_value}
 use Rattle.words.proofs.Items.{zeros, row_again, bytes_taken}
 

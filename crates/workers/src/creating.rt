@@ -1,9 +1,9 @@
 //! Crashes, recoveries, and creations, under the lock.
 
-ghost use Rattle.std.specs.Prelude.{◌≡◌, ◌≢◌, ◌<◌, ◌+◌, ◌++◌, ◌∷◌, [], Err, IfErr, IfOk, IfSome, IsErr, IsSome, IsTrue, None, OnErr, OnOk, true};
+ghost use Rattle.std.specs.Prelude.{◌≡◌, ◌≢◌, ◌<◌, ◌+◌, ◌++◌, ◌∷◌, [], Err, IfErr, IfOk, IfSome, IsErr, IsTrue, None, OnErr, OnOk, true};
 ghost use Rattle.directory.specs.Directory.{HasName, HasQueue};
 ghost use Rattle.directory.specs.Name.{IsName};
-ghost use Rattle.named.specs.Brokers.{world_at, MayCreate};
+ghost use Rattle.named.specs.Brokers.{MayCreate};
 ghost use Rattle.named.specs.GoingOn.{BrokerGoesOn};
 ghost use Rattle.named.specs.Lasting.{steps_left};
 ghost use Rattle.named.specs.Stopping.{IsStopped};

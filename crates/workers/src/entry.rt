@@ -1,6 +1,6 @@
 //! What a seat remembers of its calls, and what its caller is told.
 
-ghost use Rattle.std.specs.Prelude.{◌≡◌, length, true};
+ghost use Rattle.std.specs.Prelude.{◌≡◌, true};
 ghost use Rattle.workers.specs.Answers.{entry_begun};
 ghost use Rattle.workers.specs.Lists.{ends_open, is_open, with_end, LastIsOf};
 

@@ -1,6 +1,5 @@
 -- What an attempt at an act leaves, and a list of them.
 use Rattle.std.proofs.Common.{◌≡◌, ◌≢◌, ℕ, ◌+◌, ◌-◌, ◌≤◌, Bool, true, false, if◌then◌else◌, List, [], ◌∷◌, ◌++◌, Option, Some, None, Result, Ok, refl, sym, ap, subst, ◌∙◌, arith}
-use Rattle.std.specs.Prelude.{is_ok}
 use Rattle.words.specs.declared.refusal.Refusal.{Refusal}
 use Rattle.events.specs.declared.event.Entry.{Entry}
 use Rattle.events.specs.Parts.{IsPartOf}
@@ -21,7 +20,7 @@ use Rattle.interleave.proofs.order.Standing.{grown_by_start, grown_by_step, grow
 use Rattle.interleave.proofs.order.Standing.{grown_by_recover, told_stands}
 use Rattle.interleave.specs.State.{State, after_attempt, after_start, after_evict, after_crash, after_recover}
 use Rattle.interleave.specs.State.{recover_result, recover_with, recover_result_with, evict_with, is_down, kept_tells}
-use Rattle.interleave.specs.State.{kept_content, steps_to_ready, most_to_ready, count_of, order_in, AreToldOfAnnounced}
+use Rattle.interleave.specs.State.{kept_content, steps_to_ready, most_to_ready, count_of, order_in}
 use Rattle.interleave.proofs.recovery.Downtime.{start_refused, step_refused, start_down, step_down, became_ready}
 use Rattle.interleave.proofs.recovery.Downtime.{some_left}
 use Rattle.interleave.proofs.machine.Holding.{holds_after_recover, part_after_start, part_after_step, part_after_evict}

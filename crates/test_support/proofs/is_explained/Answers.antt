@@ -1,4 +1,4 @@
-use Rattle.std.proofs.Common.{◌≡◌, ℕ, List, sym, subst}
+use Rattle.std.proofs.Common.{◌≡◌, List, sym, subst}
 use Rattle.words.specs.PlainQueue.{Value}
 use Rattle.interleave.specs.State.{kept_content}
 use Rattle.named.specs.Brokers.{world_at}

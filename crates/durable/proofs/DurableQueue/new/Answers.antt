@@ -1,8 +1,7 @@
-use Rattle.std.proofs.Common.{◌≡◌, ℕ, suc, ◌+◌, ◌-◌, ◌<◌, List, [], ◌∷◌, ◌++◌, replicate, set, sym, ap, ◌∙◌, arith, append_assoc}
+use Rattle.std.proofs.Common.{◌≡◌, ℕ, suc, ◌+◌, ◌-◌, ◌<◌, [], ◌∷◌, ◌++◌, replicate, set, sym, ap, ◌∙◌, arith, append_assoc}
 use Rattle.std.proofs.lemmas.List.{length-replicate}
 use Rattle.std.proofs.lemmas.List.{set_at, replicate_more}
 use Rattle.words.specs.declared.told.Row.TheVariants.{NoCall}
-use Rattle.words.specs.declared.told.Told.{Told}
 use Rattle.words.specs.declared.told.Told.TheVariants.{None as told_none, Row as told_row}
 use Rattle.durable.proofs.DurableQueue.new.Goals as goal
 

@@ -1,4 +1,4 @@
-use Rattle.std.proofs.Common.{◌≡◌, ◌-◌, ◌≤◌, ◌++◌, replicate}
+use Rattle.std.proofs.Common.{◌≡◌, ◌-◌, ◌++◌, replicate}
 use Rattle.words.specs.declared.told.Row.TheVariants.{NoCall}
 use Rattle.words.specs.declared.told.Told.TheVariants.{None as told_none, Row as told_row}
 use Rattle.durable.proofs.DurableQueue.new.Given as goal

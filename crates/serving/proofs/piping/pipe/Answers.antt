@@ -1,5 +1,4 @@
-use Rattle.std.proofs.Common.{◌≡◌, inl, inr, IfErr, false, ap, subst, sym, ◌∙◌}
-use Rattle.words.specs.declared.refusal.Refusal.{Refusal}
+use Rattle.std.proofs.Common.{inl, inr, IfErr, false, subst, sym, ◌∙◌}
 use Rattle.words.specs.declared.refusal.Refusal.TheVariants.{Busy}
 use Rattle.named.specs.Brokers.{Brokered}
 use Rattle.workers.specs.Opening.{IsInUse, IsNotInUse}

@@ -1,4 +1,4 @@
-use Rattle.std.proofs.Common.{◌≡◌, ℕ, ◌<◌}
+use Rattle.std.proofs.Common.{ℕ, ◌<◌}
 use Rattle.test_threads.specs.Orders.{IsClientAt}
 use Rattle.test_threads.proofs.crowd.are_in_order.Given as goal
 

@@ -1,4 +1,4 @@
-use Rattle.std.proofs.Common.{ℕ, ◌≤◌, ◌<◌}
+use Rattle.std.proofs.Common.{ℕ, ◌<◌}
 use Rattle.arena.specs.Words.{HoldsIn}
 use Rattle.sound_words.specs.Kept.{kept_of}
 use Rattle.sound_words.proofs.kept.KeptQueue.are_in_range.Given as goal

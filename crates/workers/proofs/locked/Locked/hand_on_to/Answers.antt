@@ -1,5 +1,4 @@
 use Rattle.std.proofs.Common.{sym, subst}
-use Rattle.session.specs.Sessions.{Sessioned}
 use Rattle.workers.specs.Moments.{GoesOnLater, HandedOn}
 use Rattle.workers.proofs.guard.Laters.{later_itself}
 use Rattle.workers.proofs.locked.Locked.hand_on_to.Goals as goal
