@@ -227,26 +227,20 @@ impl<J: Naming, F: Appender + Drop> Settler<J, F> {
         (settler, marked, kept)
     }
 
-    /// The same once more, on a fresh device, where it was refused so.
-    fn settled_anew<R: Wait, S: Storage<F>>(
+    /// The same once more, on a fresh device. What it is refused there is for good, but for want of memory.
+    fn appended_anew<R: Wait>(
         self,
         rt: &R,
         alloc: Global,
         shared: &Shared<J>,
-        storage: &S,
         marked: Marked<J>,
-        refusal: Refusal,
     ) -> (Self, Marked<J>, Result<(), Failed>)
         ensures settled { OnOk result.2 (HasSettled J.first result.0) }
         ensures marked { OnOk result.2 (GoesOnLater marked result.0.kept.last) }
         ensures mark { result.1 ≡ marked }
         ensures policy { result.0.policy ≡ self.policy }
     {
-        let mut settler = self;
-        if settler.go_on_anew(alloc, storage, refusal).is_err() {
-            return (settler, marked, Err(Failed));
-        }
-        let (mut settler, marked, appended) = settler.appended(rt, alloc, shared, marked);
+        let (mut settler, marked, appended) = self.appended(rt, alloc, shared, marked);
         if let Err(refusal) = appended {
             settler.failed = settler.failed || !may_pass(refusal);
             return (settler, marked, Err(Failed));
@@ -278,7 +272,10 @@ impl<J: Naming, F: Appender + Drop> Settler<J, F> {
         }
         let (mut settler, marked, appended) = self.appended(rt, alloc, shared, marked);
         if let Err(refusal) = appended {
-            return settler.settled_anew(rt, alloc, shared, storage, marked, refusal);
+            if settler.go_on_anew(alloc, storage, refusal).is_err() {
+                return (settler, marked, Err(Failed));
+            }
+            return settler.appended_anew(rt, alloc, shared, marked);
         }
         let settled = settler.compact_if_long(alloc, storage);
         (settler, marked, settled)
