@@ -172,8 +172,13 @@ impl Core {
         let (caller, number) = (begun.client, begun.number);
         self.reserve(1)?;
         let noted = self.advance(memory, client);
+        // Most steps answer nothing. Then no room of a reply is copied, here and above, where each copy would wait for
+        // the one before it.
         if noted.answer.is_none() {
-            return Ok(noted);
+            return Ok(Noted {
+                answer: None,
+                change: noted.change,
+            });
         }
         self.queue.returned(caller, number);
         Ok(noted)

@@ -198,8 +198,14 @@ impl Session {
         // The number is read before the step: the one that answers ends the call, and the broker forgets its number.
         let number = self.calling(client, queue)?;
         let acted = self.broker.step_open(queue, client);
-        // By reference: an answer is not copied on its way.
         if let Ok(noted) = &acted {
+            // As in `Core::step_noted`: no room of a reply is copied.
+            if noted.answer.is_none() {
+                return Ok(Noted {
+                    answer: None,
+                    change: noted.change,
+                });
+            }
             self.kept.hear(queue, client, number, &noted.answer);
         }
         acted

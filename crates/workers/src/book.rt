@@ -3,10 +3,12 @@
 ghost use Rattle.std.specs.Prelude.{◌≡◌, ◌+◌, ◌++◌, [], ℕ, List, false, true, IfErr, IfOk, None, OnErr, OnOk};
 ghost use Rattle.persist.specs.Noted.{answer_in, change_in, IsNoted};
 ghost use Rattle.roll.specs.Rule.{IsHolder, row_of};
+ghost use Rattle.named.specs.GoingOn.{BrokerGoesOn};
 ghost use Rattle.named.specs.Lasting.{steps_left};
 ghost use Rattle.named.specs.Renewing.{HasRoomInEach, IsRenewedAt, IsWhyNotRenewedAt, MayRenew};
 ghost use Rattle.session.specs.Keeping.{SessionGoesOn};
 ghost use Rattle.session.specs.Promises.{KeepsNumbers};
+ghost use Rattle.session.specs.Requests.{IsAdvanced};
 ghost use Rattle.workers.specs.Noting.{handed_in, HasHandedOn, HasPromised, IsBookOn, promised_in, with_promised};
 
 use arena::SlotId;
@@ -15,7 +17,7 @@ use persist::{Change, Noted};
 use roll::{Roll, Token};
 use session::Session;
 use std::alloc::AllocError;
-use words::Refusal;
+use words::{Client, Refusal, Reply};
 
 /// The changes of kept words: the keeper of those that were handed on, and those that were noted since.
 #[derive(Drop)]
@@ -120,6 +122,33 @@ pub(crate) fn noted<T>(
 {
     note_act(book, &act);
     Ok(act?.answer)
+}
+
+/// One step of a client's call, as [`session::Session::advance`] makes it. Where changes are noted, its change is: room
+/// for it was promised. Where none are, none is asked for: to copy a change that nobody reads takes time in each act.
+// Part of its caller, as `Shared::step` is.
+#[inline(always)]
+pub(crate) fn advance(
+    session: &mut Session,
+    book: &mut Option<Book>,
+    client: Client,
+    queue: SlotId,
+) -> Result<Option<Reply>, Refusal>
+    requires { HasPromised 1 (promised_in book.old) }
+    ensures advanced { IsAdvanced session.old.broker session.new.broker queue.0 client result }
+    ensures on { IsBookOn book.old book.new session.old.broker.words.kept session.new.broker.words.kept }
+    ensures less { promised_in book.old ≡ with_promised 1 (promised_in book.new) }
+    ensures goes_on { SessionGoesOn session.old session.new }
+    ensures queues { BrokerGoesOn session.old.broker session.new.broker }
+    ensures promises { KeepsNumbers session.new }
+{
+    match book {
+        None => session.advance(client, queue),
+        Some(_) => {
+            let act = session.advance_noted(client, queue);
+            noted(book, act)
+        }
+    }
 }
 
 /// The queue of a slot begins in fresh records, as [`session::Session::renew`] makes it. Where changes are noted, its

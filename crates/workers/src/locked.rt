@@ -10,14 +10,13 @@ ghost use Rattle.workers.specs.Noting.{IsBooked};
 ghost use Rattle.workers.specs.Refusals.{IsSettledStart, IsWhyRefused, WasSettled};
 ghost use Rattle.workers.specs.Seats.{AreEmpty};
 
-use crate::book::{Book, note_act, promise};
+use crate::book::{Book, advance, promise};
 use crate::deeds::Register;
 use crate::entry::{End, Entry, Request, Took, last_queue};
 use crate::marks::Marks;
 use crate::naming::Naming;
 use crate::seat::{Seat, known, with_entry, with_last};
 use arena::SlotId;
-use persist::Noted;
 use roll::{Roll, Token};
 use session::Session;
 use std::marker::{Model, PhantomData};
@@ -210,18 +209,13 @@ impl<J: Naming> Locked<J> {
             return (seat, Took::NoMemory);
         }
         let queue = last_queue(seat.list.as_slice());
-        let act = self.session.advance_noted(seat.client, queue);
-        // By reference, as in `note_act`.
-        note_act(&mut self.book, &act);
-        match act {
-            Ok(Noted { answer, .. }) => match answer {
-                None => (seat, Took::More),
-                Some(reply) => {
-                    let answered = reply;
-                    let seat = with_last(roll, &mut self.keeper, seat, End::Answered(reply));
-                    (seat, Took::Answered(answered))
-                }
-            },
+        match advance(&mut self.session, &mut self.book, seat.client, queue) {
+            Ok(None) => (seat, Took::More),
+            Ok(Some(reply)) => {
+                let answered = reply;
+                let seat = with_last(roll, &mut self.keeper, seat, End::Answered(reply));
+                (seat, Took::Answered(answered))
+            }
             Err(refusal) => {
                 if is_want_of_memory(refusal) {
                     return (seat, Took::NoMemory);

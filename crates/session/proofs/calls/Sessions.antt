@@ -1,5 +1,5 @@
 -- A session stays right over its clients' calls.
-use Rattle.std.proofs.Common.{◌≡◌, ◌≢◌, ◌⊎◌, inl, inr, ℕ, ◌<◌, Bool, true, false, length, List, Option, Some, None, Result, Ok, Err, slice_get, slice_index_or, refl, sym, ap, subst, ◌∙◌, arith}
+use Rattle.std.proofs.Common.{◌≡◌, ◌≢◌, ◌⊎◌, inl, inr, ℕ, ◌<◌, Bool, true, false, is_some, length, List, Option, Some, None, Result, Ok, Err, slice_get, slice_index_or, refl, sym, ap, subst, ◌∙◌, arith}
 use Rattle.std.proofs.lemmas.Bool.{cases_eq}
 use Rattle.std.proofs.lemmas.Option.{get_or_from_slice_get, slice_get_within}
 use Rattle.words.specs.declared.call.Client.{Client}
@@ -303,3 +303,18 @@ kept_refused was slot client number result refusal is =
     subst (IsKeptNow was was slot client)
     (sym (last_same number result (kept_in was slot client) (λ reply e. absurd (cc (is, e)))))
     (record { here = refl; others = λ at other apart. refl })
+
+-- where it answers nothing, neither
+pub kept_gone_on : (was : List (List (Option Verdict))) (slot client : ℕ) (number : Option ℕ)
+    (result : Result (Option Reply) Refusal) → result ≡ Ok None
+    → IsKeptNow was was slot client (last_after number result (kept_in was slot client))
+kept_gone_on was slot client number result is =
+    subst (IsKeptNow was was slot client)
+    (sym (last_same number result (kept_in was slot client) (λ reply e. absurd (cc (is, e)))))
+    (record { here = refl; others = λ at other apart. refl })
+
+-- a step that did not answer
+pub gone_on : (result : Result (Option Reply) Refusal) (answer : Option Reply) → result ≡ Ok answer
+    → is_some answer ≡ false → result ≡ Ok None
+gone_on result None is none = is
+gone_on result (Some reply) is none = absurd (cc (none))

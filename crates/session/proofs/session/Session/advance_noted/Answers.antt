@@ -1,4 +1,4 @@
-use Rattle.std.proofs.Common.{◌≡◌, ℕ, Option, Some, None, Ok, ap, sym, subst, ◌∙◌}
+use Rattle.std.proofs.Common.{◌≡◌, ℕ, Option, Some, None, Ok, ap, refl, sym, subst, ◌∙◌}
 use Rattle.std.specs.Option.{IfSome}
 use Rattle.std.specs.Result.{IfOk}
 use Rattle.words.specs.declared.call.Reply.{Reply}
@@ -9,7 +9,7 @@ use Rattle.session.specs.Keeping.{IsKeptNow, SessionGoesOn}
 use Rattle.session.specs.Promises.{IsReplyIfNumbered}
 use Rattle.session.specs.Requests.{IsAdvanced, call_number, last_after}
 use Rattle.session.specs.Sessions.{Sessioned, kept_in}
-use Rattle.session.proofs.calls.Sessions.{advanced_on, advanced_reply, advanced_right, kept_heard, kept_refused}
+use Rattle.session.proofs.calls.Sessions.{advanced_on, advanced_reply, advanced_right, gone_on, kept_gone_on, kept_heard, kept_refused}
 use Rattle.session.proofs.calls.Sessions.{number_heard}
 use Rattle.session.proofs.calls.SlotCalls.{answered_at}
 use Rattle.session.proofs.answers.Promises.{numbers_kept, numbers_shown}
@@ -44,8 +44,8 @@ hear-requires-clause-slot c =
     (sym c.step_open-acted.ensures.act.answers ∙ (ap (answer_in {T = Option Reply}) c.in-Ok.is)) in
     open_below c.self.inside.broker c.self.invariant.well c.args.queue.0 at.world at.here
 
-pub invariant_of-self : goal.invariant_of-self
-invariant_of-self c =
+pub invariant_of-self-in-Ok : goal.invariant_of-self-in-Ok
+invariant_of-self-in-Ok c =
     let asked = number_heard c.args.self.now.broker c.args.queue.0 c.args.client c.in_ok-number.number c.calling.result
     c.in_ok-number.was c.calling.ensures.answer in
     advanced_right c.self.inside.broker c.step_open-acted.new.self c.args.queue.0 c.args.client c.self.inside.kept c.hear.new.self
@@ -57,8 +57,8 @@ invariant_of-self c =
     (sym c.self.view_is) asked)
     (ap (answer_in {T = Option Reply}) c.in-Ok.is) c.hear.ensures)
 
-pub returns-in-Ok-clause-reply : goal.returns-in-Ok-clause-reply
-returns-in-Ok-clause-reply c =
+pub returns-else-is_none-clause-reply : goal.returns-else-is_none-clause-reply
+returns-else-is_none-clause-reply c =
     subst (λ r. IfOk r (λ answer. IfSome answer (IsReplyIfNumbered
     (record { broker = c.step_open-acted.new.self; kept = c.hear.new.self }) c.args.queue.0 c.args.client
     (call_number (world_at c.args.self.now.broker c.args.queue.0) c.args.client)))) (sym (ap (answer_in {T = Option Reply}) c.in-Ok.is))
@@ -79,8 +79,8 @@ returns-in-Ok-clause-reply c =
         reply c.self.invariant
         (subst (IsAdvanced c.self.inside.broker c.step_open-acted.new.self c.args.queue.0 c.args.client) e made)
 
-pub returns-in-Ok-clause-kept : goal.returns-in-Ok-clause-kept
-returns-in-Ok-clause-kept c =
+pub returns-else-is_none-clause-kept : goal.returns-else-is_none-clause-kept
+returns-else-is_none-clause-kept c =
     let asked = number_heard c.args.self.now.broker c.args.queue.0 c.args.client c.in_ok-number.number c.calling.result
     c.in_ok-number.was c.calling.ensures.answer in
     subst (λ r. IsKeptNow c.args.self.now.kept c.hear.new.self c.args.queue.0 c.args.client.0
@@ -92,8 +92,8 @@ returns-in-Ok-clause-kept c =
     (last_after c.in_ok-number.number (Ok c.in-Ok.noted.answer) (kept_in s.kept c.args.queue.0 c.args.client.0)))
     c.self.view_is c.hear.ensures))
 
-pub returns-in-Ok-clause-goes_on : goal.returns-in-Ok-clause-goes_on
-returns-in-Ok-clause-goes_on c =
+pub returns-else-is_none-clause-goes_on : goal.returns-else-is_none-clause-goes_on
+returns-else-is_none-clause-goes_on c =
     let asked = number_heard c.args.self.now.broker c.args.queue.0 c.args.client c.in_ok-number.number c.calling.result
     c.in_ok-number.was c.calling.ensures.answer in
     subst (λ (s : Sessioned). SessionGoesOn s (record { broker = c.step_open-acted.new.self; kept = c.hear.new.self })) c.self.view_is
@@ -106,8 +106,8 @@ returns-in-Ok-clause-goes_on c =
     (sym c.self.view_is) asked)
     (ap (answer_in {T = Option Reply}) c.in-Ok.is) c.hear.ensures))
 
-pub returns-in-Ok-clause-promises : goal.returns-in-Ok-clause-promises
-returns-in-Ok-clause-promises c = numbers_kept _ (invariant_of-self c)
+pub returns-else-is_none-clause-promises : goal.returns-else-is_none-clause-promises
+returns-else-is_none-clause-promises c = numbers_kept _ (invariant_of-self-in-Ok c)
 
 pub returns-in_err-number-clause-queues : goal.returns-in_err-number-clause-queues
 returns-in_err-number-clause-queues c = broker_stays _
@@ -115,11 +115,11 @@ returns-in_err-number-clause-queues c = broker_stays _
 pub returns-in_default-clause-queues : goal.returns-in_default-clause-queues
 returns-in_default-clause-queues c = queues_on _ _ _ c.self.view_is c.step_open-acted.ensures.goes_on
 
-pub returns-in-Ok-clause-queues : goal.returns-in-Ok-clause-queues
-returns-in-Ok-clause-queues c = queues_on _ _ _ c.self.view_is c.step_open-acted.ensures.goes_on
+pub returns-else-is_none-clause-queues : goal.returns-else-is_none-clause-queues
+returns-else-is_none-clause-queues c = queues_on _ _ _ c.self.view_is c.step_open-acted.ensures.goes_on
 
-pub returns-in-Ok-clause-advanced : goal.returns-in-Ok-clause-advanced
-returns-in-Ok-clause-advanced c =
+pub returns-else-is_none-clause-advanced : goal.returns-else-is_none-clause-advanced
+returns-else-is_none-clause-advanced c =
     subst (λ (s : Sessioned). IsAdvanced s.broker c.step_open-acted.new.self c.args.queue.0 c.args.client (answer_in c.step_open-acted.result)) c.self.view_is
     (record { act = c.step_open-acted.ensures.act; stays = c.step_open-acted.ensures.stays; beside = c.step_open-acted.ensures.beside })
 
@@ -128,11 +128,53 @@ returns-in_default-clause-advanced c =
     subst (λ (s : Sessioned). IsAdvanced s.broker c.step_open-acted.new.self c.args.queue.0 c.args.client (answer_in c.step_open-acted.result)) c.self.view_is
     (record { act = c.step_open-acted.ensures.act; stays = c.step_open-acted.ensures.stays; beside = c.step_open-acted.ensures.beside })
 
-pub returns-in-Ok-clause-noted : goal.returns-in-Ok-clause-noted
-returns-in-Ok-clause-noted c = subst (λ (s : Sessioned). IsNoted (change_in c.step_open-acted.result) s.broker.words.kept c.step_open-acted.new.self.words.kept) c.self.view_is c.step_open-acted.ensures.noted
+pub returns-else-is_none-clause-noted : goal.returns-else-is_none-clause-noted
+returns-else-is_none-clause-noted c = subst (λ (s : Sessioned). IsNoted (change_in c.step_open-acted.result) s.broker.words.kept c.step_open-acted.new.self.words.kept) c.self.view_is c.step_open-acted.ensures.noted
 
 pub returns-in_default-clause-noted : goal.returns-in_default-clause-noted
 returns-in_default-clause-noted c = subst (λ (s : Sessioned). IsNoted (change_in c.step_open-acted.result) s.broker.words.kept c.step_open-acted.new.self.words.kept) c.self.view_is c.step_open-acted.ensures.noted
 
 pub step_open-acted-requires : goal.step_open-acted-requires
 step_open-acted-requires c = subst (λ (s : Sessioned). IsOpenTo s.broker c.args.queue.0 c.args.client) (sym c.self.view_is) c.in_ok-number.ensures.open
+
+pub invariant_of-self : goal.invariant_of-self
+invariant_of-self c =
+    let went = gone_on (answer_in c.step_open-acted.result) c.in-Ok.noted.answer (ap (answer_in {T = Option Reply}) c.in-Ok.is) c.if-is_none.ensures in
+    advanced_right c.self.inside.broker c.step_open-acted.new.self c.args.queue.0 c.args.client c.self.inside.kept c.self.inside.kept
+    (answer_in c.step_open-acted.result) c.self.invariant c.step_open-acted.ensures.promises.well
+    (record { act = c.step_open-acted.ensures.act; stays = c.step_open-acted.ensures.stays; beside = c.step_open-acted.ensures.beside })
+    (kept_gone_on c.self.inside.kept c.args.queue.0 c.args.client.0 _ (answer_in c.step_open-acted.result) went)
+
+pub returns-then-is_none-clause-goes_on : goal.returns-then-is_none-clause-goes_on
+returns-then-is_none-clause-goes_on c =
+    let went = gone_on (answer_in c.step_open-acted.result) c.in-Ok.noted.answer (ap (answer_in {T = Option Reply}) c.in-Ok.is) c.if-is_none.ensures in
+    subst (λ (s : Sessioned). SessionGoesOn s (record { broker = c.step_open-acted.new.self; kept = c.self.inside.kept })) c.self.view_is
+    (advanced_on c.self.inside.broker c.step_open-acted.new.self c.args.queue.0 c.args.client c.self.inside.kept c.self.inside.kept
+    (answer_in c.step_open-acted.result) c.self.invariant
+    (record { act = c.step_open-acted.ensures.act; stays = c.step_open-acted.ensures.stays; beside = c.step_open-acted.ensures.beside })
+    (kept_gone_on c.self.inside.kept c.args.queue.0 c.args.client.0 _ (answer_in c.step_open-acted.result) went))
+
+pub returns-then-is_none-clause-promises : goal.returns-then-is_none-clause-promises
+returns-then-is_none-clause-promises c = numbers_kept _ (invariant_of-self c)
+
+pub returns-then-is_none-clause-queues : goal.returns-then-is_none-clause-queues
+returns-then-is_none-clause-queues c = queues_on _ _ _ c.self.view_is c.step_open-acted.ensures.goes_on
+
+pub returns-then-is_none-clause-advanced : goal.returns-then-is_none-clause-advanced
+returns-then-is_none-clause-advanced c =
+    let went = gone_on (answer_in c.step_open-acted.result) c.in-Ok.noted.answer (ap (answer_in {T = Option Reply}) c.in-Ok.is) c.if-is_none.ensures in
+    subst (λ (s : Sessioned). IsAdvanced s.broker c.step_open-acted.new.self c.args.queue.0 c.args.client (Ok None)) c.self.view_is
+    (subst (IsAdvanced c.self.inside.broker c.step_open-acted.new.self c.args.queue.0 c.args.client) went
+    (record { act = c.step_open-acted.ensures.act; stays = c.step_open-acted.ensures.stays; beside = c.step_open-acted.ensures.beside }))
+
+pub returns-then-is_none-clause-kept : goal.returns-then-is_none-clause-kept
+returns-then-is_none-clause-kept c =
+    subst (λ (s : Sessioned). IsKeptNow s.kept c.self.inside.kept c.args.queue.0 c.args.client.0
+    (last_after (call_number (world_at c.args.self.now.broker c.args.queue.0) c.args.client) (Ok None) (kept_in s.kept c.args.queue.0 c.args.client.0)))
+    c.self.view_is (kept_gone_on c.self.inside.kept c.args.queue.0 c.args.client.0 _ (Ok None) refl)
+
+pub returns-then-is_none-clause-noted : goal.returns-then-is_none-clause-noted
+returns-then-is_none-clause-noted c =
+    subst (λ (s : Sessioned). IsNoted c.in-Ok.noted.change s.broker.words.kept c.step_open-acted.new.self.words.kept) c.self.view_is
+    (subst (λ change. IsNoted change c.self.inside.broker.words.kept c.step_open-acted.new.self.words.kept)
+    (ap (change_in {T = Option Reply}) c.in-Ok.is) c.step_open-acted.ensures.noted)
