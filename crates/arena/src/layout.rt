@@ -118,6 +118,8 @@ impl Layout {
     }
 
     /// The word of a place.
+    // Part of its caller, as `what_is` is: each act asks where its place lies.
+    #[inline(always)]
     #[tactic(auto, unfolding(crate::specs::Layout::word_in, crate::specs::Layout::size_in))]
     pub fn word(&self, place: Place) -> usize
         requires { IsPlace self.now place }
@@ -132,6 +134,7 @@ impl Layout {
     }
 
     /// The place of a word, where the word is below the size.
+    #[inline(always)]
     #[tactic(auto, unfolding(crate::specs::Layout::place_in))]
     pub fn what_is(&self, word: usize) -> Option<Place>
         ensures { result ≡ place_at self.now word }

@@ -139,6 +139,8 @@ impl Core {
     }
 
     /// Makes room, so that the next acts, so many of them, are not refused for want of memory.
+    // Part of its caller: each act asks for room, and nearly always finds it.
+    #[inline(always)]
     pub fn reserve(&mut self, acts: usize) -> Result<(), Refusal>
         requires { length self.old.trace.log.effects ≤ length self.old.trace.log.events }
         ensures same { self.new ≡ core_with_room self.old self.new.trace.room }

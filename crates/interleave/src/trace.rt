@@ -119,6 +119,7 @@ impl Trace {
     }
 
     /// Makes room for so many more events, each of which may begin a call.
+    #[inline(always)]
     pub(crate) fn reserve(&mut self, acts: usize) -> Result<(), AllocError>
         requires { length self.old.log.effects ≤ length self.old.log.events }
         ensures base { self.new.base ≡ self.old.base }
