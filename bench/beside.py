@@ -1,5 +1,6 @@
 #!/usr/bin/env python3
-"""beside.py OTHER ROUNDS SCRIPT..: scripts of bench/, of OTHER, another checkout, and of this one, in turns.
+"""beside.py OTHER ROUNDS SCRIPT..: scripts of bench/, of OTHER, another checkout, and of this one, in turns. At least
+two rounds.
 
 Each line of a script is printed once. A number that varies stands there as `OTHER'S | THIS ONE'S`, each by its median
 over the rounds with the quartiles behind it, so that what the machine does is told from what the trees do. Both
