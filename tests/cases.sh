@@ -3,6 +3,7 @@ work=$(mktemp -d)
 trap 'rm -r "$work"' EXIT
 passed=0
 failed=0
+left=0
 
 # Says how a case of this name went: what differs from what was wanted of it, or nothing.
 judge() {
@@ -43,9 +44,17 @@ bad_line() {
     compare "options: $*" 2 "$status" /dev/null "$work/wanted"
 }
 
-# How many passed and failed, as the last line, and that as the status.
+# Says what is left out here, and why.
+leave_out() {
+    printf 'left out: %s\n' "$1"
+    left=$((left + 1))
+}
+
+# How many passed, failed and were left out, as the last line, and that as the status.
 count() {
-    printf '%d passed, %d failed\n' "$passed" "$failed"
+    printf '%d passed, %d failed' "$passed" "$failed"
+    [ "$left" -eq 0 ] || printf ', %d left out' "$left"
+    printf '\n'
     [ "$failed" -eq 0 ]
 }
 
@@ -54,7 +63,7 @@ need() {
     local program
     for program in "$@"; do
         [ ! -x "$program" ] || continue
-        printf 'there is no %s: run rt ci, or rt run in its folder\n' "$program"
+        printf 'there is no %s: run ./test build or ./test all, and name it\n' "$program"
         failed=$((failed + 1))
         count || exit 1
     done

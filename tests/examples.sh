@@ -35,7 +35,7 @@ compare killed.py 0 "$status" tests/examples/killed.py.out /dev/null
 if command -v nc > /dev/null && command -v jq > /dev/null; then
     try client.sh sh examples/client.sh
 else
-    printf 'left out: examples/client.sh, which needs nc and jq\n'
+    leave_out 'examples/client.sh, which needs nc and jq'
     # The image has not the queue that it would have made.
     sed -i 's/,{"kind":"durable","queue":"lines"}//' "$work/image.out"
 fi

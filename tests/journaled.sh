@@ -1,8 +1,8 @@
 #!/usr/bin/env bash
 # `pqd` with a journal: killed behind replies, stopped before, within and after each call of the system by which it
 # writes, each such call failing, full files, refused memory, journals that are cut off, damaged, in use or none; a
-# machine that loses its power there; and file systems that are full or may not be written. It takes the program that the last `rt ci`, or `rt run` in crates/pqd, left, or
-# the one that PQD names.
+# machine that loses its power there; and file systems that are full or may not be written. It takes the program that
+# the last `rt ci`, or `rt run` in crates/pqd, left, or the one that PQD names.
 set -eu
 cd "$(dirname "$0")/.."
 . tests/cases.sh
@@ -26,7 +26,7 @@ if unshare --map-root-user --mount sh -c "$may_mount" "$work" 2> /dev/null; then
     unshare --map-root-user --mount python3 -B tests/mounted.py "$pqd" > "$work/out" 2>&1 || true
     judge 'mounted' "$(difference mounted tests/mounted.txt "$work/out")"
 else
-    printf 'no file system may be mounted here: the rows of tests/mounted.py are left out\n'
+    leave_out 'tests/mounted.py, since no file system may be mounted here'
 fi
 # The replies with a journal are those without one.
 for run in first second third; do

@@ -1,10 +1,15 @@
 #!/usr/bin/env bash
 # What must not compile: each crates/NAME/refused/*.edit is a change of a file that the borrow checker has to refuse with
 # the error that the edit's first line names. Such a change reaches no prover, so it is no must-fail edit. Each is made
-# on a copy of the crate and of those below it. The last line is `N passed, M failed`.
+# on a copy of the crate and of those below it, over what earlier checks proved of them.
 set -eu -o pipefail
 cd "$(dirname "$0")/.."
 . tests/cases.sh
+if [ -n "${UNPROVED-}" ]; then
+    leave_out 'what must not compile, which needs the crates below proved'
+    count
+    exit
+fi
 
 # Copies a crate and those that it stands on, with what earlier checks built: CRATE FOLDER
 copy() {
