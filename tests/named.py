@@ -23,8 +23,6 @@ from pathlib import Path
 PAGES = Path(sys.argv[1] if len(sys.argv) > 1 else ".")
 PLACEHOLDERS = re.compile(r"\b(CRATE|NAME|FILE|FOLDER|NUMBER|PART|MINUTES)\b")
 ROOTS = "crates|tests|docs|bench|examples|plain|tools"
-# Pages whose subject is the past name what was there then.
-PAST = {"docs/MEASURED.md"}
 
 
 def crates():
@@ -136,9 +134,7 @@ def found(texts, pattern):
 def look_at_paths():
     named = re.compile(rf"(?<![\w/.*-])(?:{ROOTS})/[\w./*-]*[\w*]")
     for page, path in found(pages(), named):
-        name = str(page.relative_to(PAGES))
-        if name not in PAST:
-            yield f"{name}: {path}", "" if is_there(path) else "there is no such path"
+        yield f"{page.relative_to(PAGES)}: {path}", "" if is_there(path) else "there is no such path"
 
 
 def anchors(page):
