@@ -1,6 +1,6 @@
 #!/usr/bin/env python3
 """house.py [TOP]: counts of the repository at TOP (here): lines, clauses, argument lists, citations of lower crates'
-lemmas, modules with the name of a crate below, depth.
+lemmas, modules with the name of a crate below, depth, long sentences of its pages.
 
 A clause is joined over its lines; its length is that of the joined text. Printed, not tested.
 """
@@ -76,6 +76,24 @@ def below(crate):
     return {lower for it in crates[crate] if it in crates for lower in {it, *below(it)}}
 
 
+def sentences(text):
+    """The sentences of a page, but of no heading, table or block of code."""
+    text = re.sub(r"^```.*?^```", "", text, flags=re.S | re.M)
+    text = re.sub(r"^(\||#|\[\w+\]: ).*$", "", text, flags=re.M)
+    text = re.sub(r"^ *(-|\d+\.) ", "\n\n", text, flags=re.M)
+    blocks = [" ".join(block.split()) for block in re.split(r"\n\s*\n", text)]
+    return [it for block in blocks for it in re.split(r"(?<=[.!?])(?:\*\*|\))? (?=[^a-z])", block)]
+
+
+def words(sentence):
+    """How many words it has; the path of a link is none."""
+    return sum(bool(re.search(r"\w", it)) for it in re.sub(r"\]\([^)]*\)", "]", sentence).split())
+
+
+def long_sentences(page, most):
+    return sum(words(it) > most for it in sentences(page.read_text()))
+
+
 all_clauses = [it for crate in crates for text in texts(crate, "src", "rt") for it in clauses(text)]
 cited = [
     (crate, module)
@@ -107,3 +125,7 @@ modules = [
 ]
 print("modules with the name of a crate below, which `rt ci` refuses:", ", ".join(modules) or "none")
 print("crates:", len(crates), "depth:", max(map(depth, crates)))
+pages = [top / "README.md", *sorted((top / "docs").glob("*.md"))]
+for most in (30, 40):
+    found = [f"{page.name} {count}" for page in pages if (count := long_sentences(page, most))]
+    print(f"sentences over {most} words:", ", ".join(found) or "none")
