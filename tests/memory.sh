@@ -5,7 +5,7 @@
 #   the calls which were refused, and each of these is made again.
 # - pqx and pqd do what they would, or say that there is no memory.
 # - Scripts with a line `again` behind each line make what was refused once more.
-# - Requests that `pqd pipe` refused are sent again.
+# - Requests that pqd refused are sent again.
 #
 # It takes the programs that the last `rt ci`, or `rt run` in their folders, left, or those that REFUSALS, PQX and PQD
 # name.
@@ -109,15 +109,16 @@ again plain 'content created reply' tests/memory/plain.script broker run
 printf '%s\n' 'broker 1 1' 'create a log 1' image > "$work/in"
 refuse 'pqx broker points' "$work/in" "$pqx" broker points
 
-# Requests that are refused memory are sent again, and calls that are left unfinished are finished: which ones.
+# Requests that are refused memory are sent again, and calls that are left unfinished are finished: which ones. A pipe
+# has its session for itself, and the desk of a server shares it.
 status=0
-python3 -B tests/piped_refused.py "$pqd" "$work/refusing.so" tests/memory created told down stopped desk > "$work/out" \
-    || status=$?
+python3 -B tests/requests_refused.py "$pqd" "$work/refusing.so" tests/memory pipe:created pipe:told pipe:down \
+    pipe:stopped serve:desk > "$work/out" || status=$?
 cat "$work/out"
-judge 'each allocation refused: pqd pipe' "$([ "$status" -eq 0 ] || cat "$work/out")"
+judge 'each allocation refused: pqd' "$([ "$status" -eq 0 ] || echo "status $status")"
 while read -r line; do
-    judge "pqd pipe, $line" "$(grep -qxF "$line" "$work/out" || echo 'is not what was made again')"
-done < tests/memory/piped
+    judge "$line" "$(grep -qxF "$line" "$work/out" || echo 'others were')"
+done < tests/memory/requests
 
 # A server whose queues are renewed while it serves: PROGRAM
 serving_refused() {

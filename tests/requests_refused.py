@@ -1,21 +1,27 @@
-"""piped_refused.py PQD LIBRARY FOLDER NAME..: `pqd pipe` with each of its allocations refused in turn by the library
-tests/refusing.c, on the requests FOLDER/NAME.in, which FOLDER/NAME.out answers. The first begins without an image, each
-other one on the image that the one before left.
+"""requests_refused.py PQD LIBRARY FOLDER COMMAND:NAME..: `pqd pipe` or `pqd serve` with each of its allocations refused
+in turn by the library tests/refusing.c, on the requests FOLDER/NAME.in, which FOLDER/NAME.out answers. The first one
+begins without an image, each other one on the image that the one before left. A server has one worker and one
+connection.
 
 A request that is refused memory leaves what can be asked of the broker as it was, and is answered as ever when it is
 sent again. A call that is left unfinished is finished: with a number when it is sent again, without one by the client's
 next request, so that the reply of a take is lost. The image at the end is the same. Or pqd says that there is no memory,
-its replies are a beginning, and its image is as it was. Prints how often each came, and which requests were made again,
-and what is wrong, with status 1."""
+or its server ends the connection or does not listen: then its replies are a beginning, and its image is as it was.
+Prints how often each came, and which requests were made again, and what is wrong, with status 1."""
 
 import concurrent.futures
+import contextlib
 import json
 import os
+import socket
 import subprocess
 import sys
 import tempfile
+from collections import Counter
 
 MOST_TRIES = 3
+# Seconds for a reply of a server, and for its end.
+PATIENCE = 5
 CLIENTS, RECORDS = 2, 6
 NO_MEMORY = {"error": 6, "name": "NoMemory"}
 UNFINISHED = {"reply": "unfinished"}
@@ -24,32 +30,54 @@ LOOKS = [{"op": "list"}, *({"op": "told", "client": client, "queue": queue}
                            for queue in ("a", "b", "c") for client in range(CLIENTS))]
 
 
+# What becomes of a run: requests were made again, or finished; pqd said that there is no memory; its server ended the
+# connection, or did not listen; the allocation was missed by nobody.
+KINDS = ("again", "unfinished", "said", "gone", "none")
+
+
 class Gone(Exception):
-    """The program ended before it answered."""
+    """The program ended, or its connection did, before it answered."""
 
 
 class Wrong(Exception):
     """What differs from the run in which no memory is refused."""
 
 
-class Piped:
-    """A run with the allocation of this number refused, on the image of the path."""
+class Run:
+    """A run of a command with the allocation of this number refused, on the image of the path."""
 
-    def __init__(self, number, image):
-        words = [sys.argv[1], "pipe", "--clients", str(CLIENTS), "--records", str(RECORDS), "--image", image]
+    def __init__(self, command, number, image):
+        words = [sys.argv[1], command, "--clients", str(CLIENTS), "--records", str(RECORDS), "--image", image]
         settings = {**os.environ, "LD_PRELOAD": os.path.abspath(sys.argv[2]), "REFUSED": str(number)}
+        words += ["--port", "0", "--workers", "1"] if command == "serve" else []
         pipe = subprocess.PIPE
         self.process = subprocess.Popen(words, stdin=pipe, stdout=pipe, stderr=pipe, env=settings)
+        self.streams = self.process.stdin, self.process.stdout
+        self.is_served = command == "serve"
         self.again, self.unfinished = set(), set()
+
+    def connect(self):
+        """Of a server the streams are its connection's."""
+        if not self.is_served:
+            return
+        line = self.process.stdout.readline()
+        if not line.startswith(b"listening"):
+            raise Gone
+        try:
+            connection = socket.create_connection(("127.0.0.1", int(line.rsplit(b":", 1)[1])), timeout=PATIENCE)
+        except OSError as error:
+            raise Gone from error
+        self.streams = connection.makefile("wb"), connection.makefile("rb")
+        connection.close()
 
     def ask(self, line):
         """The reply to a line."""
         try:
-            self.process.stdin.write(line + b"\n")
-            self.process.stdin.flush()
-        except BrokenPipeError as error:
+            self.streams[0].write(line + b"\n")
+            self.streams[0].flush()
+            reply = self.streams[1].readline()
+        except OSError as error:
             raise Gone from error
-        reply = self.process.stdout.readline()
         if not reply:
             raise Gone
         return json.loads(reply)
@@ -90,19 +118,22 @@ class Piped:
         return {"reply": "done"} if request["op"] == "put" else None
 
     def end(self):
-        """The status, and what is on standard error."""
-        try:
+        """The status, or None where it goes on, and what is on standard error."""
+        with contextlib.suppress(OSError):
+            self.streams[0].close()
             self.process.stdin.close()
-        except BrokenPipeError:
-            pass
-        error = self.process.stderr.read()
-        return self.process.wait(timeout=60), error
+        with contextlib.suppress(subprocess.TimeoutExpired):
+            self.process.wait(timeout=PATIENCE)
+        status = self.process.poll()
+        self.process.kill()
+        return status, self.process.stderr.read()
 
     def close(self):
         self.process.kill()
         self.process.wait()
-        for stream in (self.process.stdout, self.process.stderr):
-            stream.close()
+        for stream in (*self.streams, self.process.stdout, self.process.stderr):
+            with contextlib.suppress(OSError):
+                stream.close()
 
 
 def name_of(line):
@@ -116,12 +147,12 @@ def name_of(line):
 class Row:
     """Requests and their replies, and the image on which they begin, if there is one."""
 
-    def __init__(self, folder, name, image):
+    def __init__(self, folder, command, name, image):
         with open(f"{folder}/{name}.in", "rb") as file:
             self.lines = file.read().splitlines()
         with open(f"{folder}/{name}.out", "rb") as file:
             self.replies = [json.loads(line) for line in file]
-        self.image = image
+        self.command, self.image = command, image
         self.looks, self.left, self.count = None, None, None
 
     def begin(self, folder):
@@ -137,12 +168,13 @@ class Row:
         image that it leaves."""
         with tempfile.TemporaryDirectory() as folder:
             path, looks = self.begin(folder), []
-            piped = Piped(0, path)
+            run = Run(self.command, 0, path)
+            run.connect()
             for line, wanted in zip(self.lines, self.replies, strict=True):
-                looks.append(piped.look() if is_looked_at else None)
-                if piped.ask(line) != wanted:
+                looks.append(run.look() if is_looked_at else None)
+                if run.ask(line) != wanted:
                     raise Wrong(f"{line} is not answered {wanted}")
-            status, error = piped.end()
+            status, error = run.end()
             if status:
                 raise Wrong(f"it ends with status {status} and {error}")
             return looks, int(error), image_at(path)
@@ -155,36 +187,41 @@ class Row:
             raise Wrong("another image is left where the broker is looked at")
 
     def refuse(self, number):
-        """What became of a run in which this allocation is refused: `said`, `none`, or the requests that were made again
-        and those that were left unfinished."""
+        """What became of a run in which this allocation is refused: one of KINDS, and which requests that is said of."""
         with tempfile.TemporaryDirectory() as folder:
             path = self.begin(folder)
-            piped = Piped(number, path)
+            run = Run(self.command, number, path)
             try:
-                return self.compared(piped, path)
+                return self.compared(run, path)
             finally:
-                piped.close()
+                run.close()
 
-    def compared(self, piped, path):
+    def play(self, run):
+        """Whether it answered to the end."""
         try:
+            run.connect()
             for line, wanted, seen in zip(self.lines, self.replies, self.looks):
-                found = piped.play(line, seen)
+                found = run.play(line, seen)
                 if found not in (None, wanted):
                     raise Wrong(f"{line} is answered {found}, and not {wanted}")
         except Gone:
-            pass
-        status, error = piped.end()
-        if status == 1 and error == b"pqd: 6 NoMemory\n":
+            return False
+        return True
+
+    def compared(self, run, path):
+        is_answered = self.play(run)
+        status, error = run.end()
+        if not is_answered and run.is_served or status == 1 and error == b"pqd: 6 NoMemory\n":
             if image_at(path) != self.image:
-                raise Wrong("it says that there is no memory, and changes the image")
-            return "said", set()
-        if status or error:
+                raise Wrong("it ends without memory, and changes the image")
+            return "said" if status == 1 else "gone", set()
+        if status or error or not is_answered:
             raise Wrong(f"it ends with status {status}, and says {error}")
         if image_at(path) != self.left:
             raise Wrong("it leaves another image")
-        if piped.unfinished:
-            return "unfinished", piped.unfinished
-        return ("again", piped.again) if piped.again else ("none", set())
+        if run.unfinished:
+            return "unfinished", run.unfinished
+        return ("again", run.again) if run.again else ("none", set())
 
 
 def image_at(path):
@@ -203,33 +240,30 @@ def tried(row, number):
 
 def refuse_all(row, name):
     """Refuses each allocation of a row in turn, and prints what came of it. Whether all was right."""
-    counts, names, is_right = {}, {"again": set(), "unfinished": set()}, True
+    counts, names, is_right = Counter(), {"again": set(), "unfinished": set()}, True
     with concurrent.futures.ThreadPoolExecutor(os.cpu_count()) as pool:
         for found, wrong in pool.map(lambda number: tried(row, number), range(1, row.count + 1)):
             if wrong:
                 is_right = False
                 print(f"{name}: {wrong}")
                 continue
-            what, made = found
-            counts[what] = counts.get(what, 0) + 1
-            if what in names:
-                names[what] |= made
-    numbers = ", ".join(f"{counts.get(what, 0)} {what}" for what in ("again", "unfinished", "said", "none"))
-    print(f"{name}: {row.count} allocations refused, {numbers}")
-    for what in names:
-        print(f"{name}: {what}: {' '.join(sorted(names[what])) or '-'}")
+            counts[found[0]] += 1
+            names.setdefault(found[0], set()).update(found[1])
+    print(f"{name}: {row.count} allocations refused: " + ", ".join(f"{counts[kind]} {kind}" for kind in KINDS))
+    for kind in ("again", "unfinished"):
+        print(f"{name}, {kind}: {' '.join(sorted(names[kind])) or '-'}")
     return is_right
 
 
-def main(folder, *names):
+def main(folder, *rows):
     image, is_right = None, True
-    for name in names:
-        row = Row(folder, name, image)
+    for each in rows:
+        row = Row(folder, *each.split(":"), image)
         try:
             row.play_all()
         except Wrong as wrong:
-            sys.exit(f"{name}: with no memory refused: {wrong}")
-        is_right &= refuse_all(row, name)
+            sys.exit(f"{each}: with no memory refused: {wrong}")
+        is_right &= refuse_all(row, each)
         image = row.left
     sys.exit(not is_right)
 
