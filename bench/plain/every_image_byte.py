@@ -21,7 +21,7 @@ from form import FORM
 from image import GREATEST_NUMBER, Broken, blocks_of, image_of
 
 # How many lines a script has when it ends, or some more.
-LINES = 960
+LINES = 930
 AT_ONCE = 32
 # A message of four bytes. Of each queue a line creates one of the other kind too, which is refused: the words may say
 # either, and a line on a queue has to be one of a kind that a line creates it of.
@@ -118,26 +118,56 @@ def lines_of_words(words):
     return "served", [("boot", "booted\n"), *lines_of_broker(words, blocks)]
 
 
+def begun_again(blocks):
+    """Lines of a broker that leaves an image, and of one that begins on it."""
+    names = [entry[0] for entry in blocks if entry]
+    return [("image", "image bytes "), ("boot", "booted\n"), ("recover", "ready steps "),
+            *((None, f"{name}: told 0 ") for name in names)]
+
+
+class Script:
+    """Lines behind an image of these words, each with how what it prints begins."""
+
+    def __init__(self, first, words):
+        self.first, self.words, self.now = [*first, "image"], words, list(words)
+        # The lines, the word that is another one now, and the change that was served last.
+        self.lines, self.changed, self.served = [], None, None
+
+    def set(self, word, value):
+        self.lines.append((f"set {word} {value}", f"set {word} was {self.now[word]}\n"))
+        self.now[word] = value
+
+    def change(self, word, value):
+        """This word alone is another one: what becomes of the image."""
+        if self.changed not in (None, word):
+            self.set(self.changed, self.words[self.changed])
+        self.set(word, value)
+        self.changed = word
+        what, lines = lines_of_words(self.now)
+        self.lines += lines
+        if what == "served":
+            self.served = word, value
+        return what
+
+    def end(self):
+        """At the end the broker that was served last leaves an image, on which another one begins."""
+        if self.served:
+            self.change(*self.served)
+            self.lines += begun_again(blocks_of(self.now, FORM))
+        return self.first, self.lines
+
+
 def scripts(is_whole, counts):
     """Scripts, each with how the lines that it prints behind its first `image` begin."""
     for name, first in SOUND.items():
         words = sound_words(first)
-        lines, before = [], None
+        script = Script(first, words)
         for word, value in changes(words, is_whole):
-            # The word that was changed before has its old value again.
-            if before not in (None, word):
-                lines.append((f"set {before} {words[before]}", f"set {before} was "))
-            was, words[word] = words[word], value
-            what, more = lines_of_words(words)
-            words[word] = was
-            counts[name, what] += 1
-            lines += [(f"set {word} {value}", f"set {word} was "), *more]
-            before = word
-            if len(lines) >= LINES:
-                yield [*first, "image"], lines
-                lines, before = [], None
-        if lines:
-            yield [*first, "image"], lines
+            counts[name, script.change(word, value)] += 1
+            if len(script.lines) >= LINES:
+                yield script.end()
+                script = Script(first, words)
+        yield script.end()
 
 
 def difference(pqx, first, lines):
