@@ -112,8 +112,8 @@ refuse 'pqx broker points' "$work/in" "$pqx" broker points
 # Requests that are refused memory are sent again, and calls that are left unfinished are finished: which ones. A pipe
 # has its session for itself, and the desk of a server shares it.
 status=0
-python3 -B tests/requests_refused.py "$pqd" "$work/refusing.so" tests/memory pipe:created pipe:told pipe:down \
-    pipe:stopped serve:desk > "$work/out" || status=$?
+timeout 300 python3 -B tests/requests_refused.py "$pqd" "$work/refusing.so" tests/memory pipe:created pipe:told \
+    pipe:down pipe:stopped serve:desk > "$work/out" || status=$?
 cat "$work/out"
 judge 'each allocation refused: pqd' "$([ "$status" -eq 0 ] || echo "status $status")"
 while read -r line; do

@@ -20,8 +20,8 @@ import tempfile
 from collections import Counter
 
 MOST_TRIES = 3
-# Seconds for a reply of a server, and for its end.
-PATIENCE = 5
+# Seconds for a reply of a server that may be gone, and for the end of a program that answered all.
+PATIENCE, END = 5, 60
 CLIENTS, RECORDS = 2, 6
 NO_MEMORY = {"error": 6, "name": "NoMemory"}
 UNFINISHED = {"reply": "unfinished"}
@@ -117,13 +117,13 @@ class Run:
             raise Wrong(f"{other} behind an unfinished {line} is answered {found}")
         return {"reply": "done"} if request["op"] == "put" else None
 
-    def end(self):
-        """The status, or None where it goes on, and what is on standard error."""
+    def end(self, seconds):
+        """The status, or None where it goes on after these, and what is on standard error."""
         with contextlib.suppress(OSError):
             self.streams[0].close()
             self.process.stdin.close()
         with contextlib.suppress(subprocess.TimeoutExpired):
-            self.process.wait(timeout=PATIENCE)
+            self.process.wait(timeout=seconds)
         status = self.process.poll()
         self.process.kill()
         return status, self.process.stderr.read()
@@ -174,8 +174,8 @@ class Row:
                 looks.append(run.look() if is_looked_at else None)
                 if run.ask(line) != wanted:
                     raise Wrong(f"{line} is not answered {wanted}")
-            status, error = run.end()
-            if status:
+            status, error = run.end(END)
+            if status != 0:
                 raise Wrong(f"it ends with status {status} and {error}")
             return looks, int(error), image_at(path)
 
@@ -210,12 +210,12 @@ class Row:
 
     def compared(self, run, path):
         is_answered = self.play(run)
-        status, error = run.end()
+        status, error = run.end(END if is_answered else PATIENCE)
         if not is_answered and run.is_served or status == 1 and error == b"pqd: 6 NoMemory\n":
             if image_at(path) != self.image:
                 raise Wrong("it ends without memory, and changes the image")
             return "said" if status == 1 else "gone", set()
-        if status or error or not is_answered:
+        if status != 0 or error or not is_answered:
             raise Wrong(f"it ends with status {status}, and says {error}")
         if image_at(path) != self.left:
             raise Wrong("it leaves another image")
