@@ -9,7 +9,7 @@ if [ ! -x "$pqd" ]; then
     echo "there is no $pqd: \`rt run\` in crates/pqd leaves it there, and PQD=PATH names another one"
     exit 1
 fi
-python3 -B "$(dirname "$0")/client/piping.py" acts "$pqd" "${ROUNDS:-8}" | awk '
+python3 -B "$(dirname "$0")/client/timed_pipe.py" acts "$pqd" "${ROUNDS:-8}" | awk '
     {
         printf "%s: %.0f calls a second with at most %d calls behind, %.0f with %d and more: ratio %.2f\n", \
             $1, $2 / $5, $3, $2 / $6, $4, $6 / $5

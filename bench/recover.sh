@@ -32,7 +32,7 @@ for kind in durable log; do
         }'
     done
 done
-python3 -B "$(dirname "$0")/client/piping.py" recover "$pqd" "${ROUNDS:-20}" | awk '
+python3 -B "$(dirname "$0")/client/timed_pipe.py" recover "$pqd" "${ROUNDS:-20}" | awk '
     $1 == kind {
         printf "%s: %.0f us with %d items, %.0f with %d: ratio %.2f, %.0f ns an item more\n", \
             $1, time * 1e6, items, $3 * 1e6, $2, $3 / time, ($3 - time) * 1e9 / ($2 - items)

@@ -15,4 +15,4 @@ if [ ! -x "$pqx" ]; then
     echo "there is no $pqx: \`rt run\` in crates/pqx leaves it there, and PQX=PATH names another one"
     exit 1
 fi
-exec python3 -B "$(dirname "$0")/client/scripts.py" "$pqx" "${ROUNDS:-40}"
+exec python3 -B "$(dirname "$0")/client/timed_scripts.py" "$pqx" "${ROUNDS:-40}"

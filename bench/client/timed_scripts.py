@@ -1,4 +1,4 @@
-"""scripts.py PQX ROUNDS: what bench/slots.sh times: `pqx run` and `pqx broker run` on scripts, by processor time."""
+"""timed_scripts.py PQX ROUNDS: what bench/slots.sh times: `pqx run` and `pqx broker run` on scripts, by processor time."""
 
 import os
 import subprocess
