@@ -1,7 +1,7 @@
 """What bench/acts.sh and bench/recover.sh time: a `pqd pipe` that answers requests of its standard input. Seconds are
 those of its processor, so that what else the machine does counts less.
 
-timed_pipe.py acts PQD ROUNDS       seconds of 400 calls with few calls behind them and with many, of both kinds of queue
+timed_pipe.py acts PQD ROUNDS       seconds of 400 calls with few behind them and with many, of both kinds of queue
 timed_pipe.py recover PQD ROUNDS    seconds of a recovery with so many items in the queue, of both kinds"""
 
 import json

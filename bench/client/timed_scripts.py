@@ -1,4 +1,4 @@
-"""timed_scripts.py PQX ROUNDS: what bench/slots.sh times: `pqx run` and `pqx broker run` on scripts, by processor time."""
+"""timed_scripts.py PQX ROUNDS: what bench/slots.sh times: `pqx run` and `pqx broker run`, by their processor time."""
 
 import os
 import subprocess
@@ -65,8 +65,9 @@ def beside_a_world(rounds):
             if acts_in(run(*cases[3])[2]) != count:
                 sys.exit("the acts of a slot are others")
             world, slot = whole - none, full - empty
-            print(f"{kind}, {clients} client{'s' * (clients > 1)}: {count / world / 1e6:.2f} million acts a second on a "
-                  f"world, {count / slot / 1e6:.2f} by slot: ratio {world / slot:.2f}")
+            said = f"{kind}, {clients} client{'s' * (clients > 1)}"
+            print(f"{said}: {count / world / 1e6:.2f} million acts a second on a world, {count / slot / 1e6:.2f} by slot: "
+                  f"ratio {world / slot:.2f}")
 
 
 def crashing():
