@@ -66,8 +66,8 @@ def beside_a_world(rounds):
                 sys.exit("the acts of a slot are others")
             world, slot = whole - none, full - empty
             said = f"{kind}, {clients} client{'s' * (clients > 1)}"
-            print(f"{said}: {count / world / 1e6:.2f} million acts a second on a world, {count / slot / 1e6:.2f} by slot: "
-                  f"ratio {world / slot:.2f}")
+            print(f"{said}: {count / world / 1e6:.2f} million acts a second on a world, {count / slot / 1e6:.2f} by slot:"
+                  f" ratio {world / slot:.2f}")
 
 
 def crashing():
