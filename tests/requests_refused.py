@@ -6,13 +6,14 @@ connection.
 A request that is refused memory leaves what can be asked of the broker as it was, and is answered as ever when it is
 sent again. A call that is left unfinished is finished: with a number when it is sent again, without one by the client's
 next request, so that the reply of a take is lost. The image at the end is the same. Or pqd says that there is no memory,
-or its server ends the connection or does not listen: then its replies are a beginning, and its image is as it was.
+or its server goes on, but not with this connection: then its replies are a beginning, and its image is as it was.
 Prints how often each came, and which requests were made again, and what is wrong, with status 1."""
 
 import concurrent.futures
 import contextlib
 import json
 import os
+import re
 import socket
 import subprocess
 import sys
@@ -25,13 +26,13 @@ PATIENCE, END = 5, 60
 CLIENTS, RECORDS = 2, 6
 NO_MEMORY = {"error": 6, "name": "NoMemory"}
 UNFINISHED = {"reply": "unfinished"}
+# What a server that goes on says of its connection, or nothing: where no thread can be made, it waits.
+WARNED = re.compile(rb"(\[WARN  server::connections\] a connection is closed unserved: 6 NoMemory\n)?")
 # What can be asked of a broker.
 LOOKS = [{"op": "list"}, *({"op": "told", "client": client, "queue": queue}
                            for queue in ("a", "b", "c") for client in range(CLIENTS))]
-
-
-# What becomes of a run: requests were made again, or finished; pqd said that there is no memory; its server ended the
-# connection, or did not listen; the allocation was missed by nobody.
+# What becomes of a run: requests were made again, or finished; pqd said that there is no memory; its server went on, but
+# not with this connection; the allocation was missed by nobody.
 KINDS = ("again", "unfinished", "said", "gone", "none")
 
 
@@ -211,10 +212,11 @@ class Row:
     def compared(self, run, path):
         is_answered = self.play(run)
         status, error = run.end(END if is_answered else PATIENCE)
-        if not is_answered and run.is_served or status == 1 and error == b"pqd: 6 NoMemory\n":
+        is_gone = run.is_served and not is_answered and status is None and WARNED.fullmatch(error)
+        if is_gone or status == 1 and error == b"pqd: 6 NoMemory\n":
             if image_at(path) != self.image:
                 raise Wrong("it ends without memory, and changes the image")
-            return "said" if status == 1 else "gone", set()
+            return "gone" if is_gone else "said", set()
         if status != 0 or error or not is_answered:
             raise Wrong(f"it ends with status {status}, and says {error}")
         if image_at(path) != self.left:
