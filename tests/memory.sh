@@ -120,6 +120,17 @@ while read -r line; do
     judge "$line" "$(grep -qxF "$line" "$work/out" || echo 'others were')"
 done < tests/memory/requests
 
+# A copy of that script in which a comparison is turned says what it then finds: OLD NEW SAID
+wrong_requests() {
+    sed "s/$1/$2/" tests/requests_refused.py > "$work/wrong.py"
+    timeout 300 python3 -B "$work/wrong.py" "$pqd" "$work/refusing.so" tests/memory pipe:created > "$work/out" || true
+    judge "requests with '$2'" "$(grep -q "$3" "$work/out" || echo "it does not say: $3")"
+}
+wrong_requests 'self.look() != seen' 'self.look() == seen' 'is refused memory, and changes something'
+wrong_requests 'image_at(path) != self.image' 'image_at(path) == self.image' 'without memory, and changes the image'
+wrong_requests 'image_at(path) != self.left' 'image_at(path) == self.left' 'it leaves another image'
+wrong_requests 'found not in' 'found in' 'is answered'
+
 # A server whose queues are renewed while it serves: PROGRAM
 serving_refused() {
     python3 -B tests/serving_refused.py "$1" "$work/refusing.so" 2>&1 || true

@@ -5,8 +5,8 @@ connection.
 
 A request that is refused memory leaves what can be asked of the broker as it was, and is answered as ever when it is
 sent again. A call that is left unfinished is finished: with a number when it is sent again, without one by the client's
-next request, so that the reply of a take is lost. The image at the end is the same. Or pqd says that there is no memory,
-or its server goes on, but not with this connection: then its replies are a beginning, and its image is as it was.
+next request, so that the reply of a take is lost. The image at the end is the same. Or pqd says that there is no
+memory, or its server goes on, but not with this connection: then its replies are a beginning, and its image stays.
 Prints how often each came, and which requests were made again, and what is wrong, with status 1."""
 
 import concurrent.futures
@@ -31,8 +31,8 @@ WARNED = re.compile(rb"(\[WARN  server::connections\] a connection is closed uns
 # What can be asked of a broker.
 LOOKS = [{"op": "list"}, *({"op": "told", "client": client, "queue": queue}
                            for queue in ("a", "b", "c") for client in range(CLIENTS))]
-# What becomes of a run: requests were made again, or finished; pqd said that there is no memory; its server went on, but
-# not with this connection; the allocation was missed by nobody.
+# What becomes of a run: requests were made again, or finished; pqd said that there is no memory; its server went on,
+# but not with this connection; the allocation was missed by nobody.
 KINDS = ("again", "unfinished", "said", "gone", "none")
 
 
@@ -188,7 +188,7 @@ class Row:
             raise Wrong("another image is left where the broker is looked at")
 
     def refuse(self, number):
-        """What became of a run in which this allocation is refused: one of KINDS, and which requests that is said of."""
+        """What became of a run in which this allocation is refused: one of KINDS, and of which requests."""
         with tempfile.TemporaryDirectory() as folder:
             path = self.begin(folder)
             run = Run(self.command, number, path)
