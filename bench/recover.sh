@@ -1,36 +1,40 @@
 #!/usr/bin/env bash
-# Recovery's steps after a crash with 2n values in the queue over those with n, and its time over its time: at most 2.1.
-# And a crash's time in a memory of 2w words over that of w, and in nanoseconds a word. Printed, not tested.
+# Recovery's steps after a crash with 2n items in the queue over those with n, by `pqx run`, and its processor time over
+# its time, by `pqd pipe`: at most 2.1. A request and its reply are a part of the time. Printed, not tested. PQX and PQD
+# name other programs than those that `rt run` left.
 set -eu
-cd "$(dirname "$0")/../crates/bench_load"
-rt run > /dev/null 2>&1
+pqx=$(realpath -m "${PQX:-$(dirname "$0")/../crates/pqx/out/pqx}")
+pqd=$(realpath -m "${PQD:-$(dirname "$0")/../crates/pqd/out/pqd}")
+for program in "$pqx" "$pqd"; do
+    if [ ! -x "$program" ]; then
+        echo "there is no $program: \`rt run\` leaves it there, and PQX=PATH and PQD=PATH name others"
+        exit 1
+    fi
+done
 
-# Steps, nanoseconds of the crash, nanoseconds of recovery, each by the best of 200 turns in the best of six runs, as a run
-# may share its core: KIND RECORDS NODES.
-measure() {
-    for _ in 1 2 3 4 5 6; do
-        ./out/bench_load recover "$1" "$2" "$3" 200
-    done | awk 'NR == 1 || $2 < crash { crash = $2 } NR == 1 || $3 < time { time = $3 } END { print $1, crash, time }'
+# Recovery's steps with so many items in a queue of one client: KIND ITEMS
+steps() {
+    local number=
+    {
+        echo "queue $1 1 4096"
+        for ((item = 1; item <= $2; item++)); do
+            [ "$1" = durable ] || number="$item "
+            printf 'enq 0 %s07\nend 0\n' "$number"
+        done
+        printf 'crash\nrecover\n'
+    } | "$pqx" run | sed -n 's/^ready steps //p'
 }
 
 for kind in durable log; do
-    for n in 1000 2000; do
-        read -r steps _ time <<< "$(measure $kind 4096 $n)"
-        read -r more_steps _ more_time <<< "$(measure $kind 4096 $((2 * n)))"
-        awk -v kind=$kind -v n=$n -v steps="$steps" -v time="$time" -v more="$more_steps" -v more_time="$more_time" 'BEGIN {
-            printf "%s: %d steps with %d values, %d with %d: ratio %.2f\n", kind, steps, n, more, 2 * n, more / steps
-            printf "%s: %.0f us with %d values, %.0f with %d: ratio %.2f, %.0f ns a step\n", \
-                kind, time / 1e3, n, more_time / 1e3, 2 * n, more_time / time, more_time / more
+    for items in 120 240; do
+        awk -v kind=$kind -v n=$items -v few="$(steps $kind $items)" -v more="$(steps $kind $((2 * items)))" 'BEGIN {
+            printf "%s: %d steps with %d items, %d with %d: ratio %.2f\n", kind, few, n, more, 2 * n, more / few
         }'
     done
 done
-for kind in durable log; do
-    read -r _ crash _ <<< "$(measure $kind 2048 1)"
-    read -r _ more_crash _ <<< "$(measure $kind 4096 1)"
-    # Words of one client and 4,096 records.
-    words=$([ $kind = durable ] && echo $((7 + 4 * 4096)) || echo $((8 + 8 * 4096)))
-    awk -v kind=$kind -v crash="$crash" -v more="$more_crash" -v words="$words" 'BEGIN {
-        printf "%s: a crash of %d words: %.1f us, %.2f ns a word, over that of half of them: %.2f\n", \
-            kind, words, more / 1e3, more / words, more / crash
-    }'
-done
+python3 -B "$(dirname "$0")/client/timed_pipe.py" recover "$pqd" "${ROUNDS:-20}" | awk '
+    $1 == kind {
+        printf "%s: %.0f us with %d items, %.0f with %d: ratio %.2f, %.0f ns an item more\n", \
+            $1, time * 1e6, items, $3 * 1e6, $2, $3 / time, ($3 - time) * 1e9 / ($2 - items)
+    }
+    { kind = $1; items = $2; time = $3 }'

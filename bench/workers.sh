@@ -1,44 +1,63 @@
 #!/usr/bin/env bash
-# Calls a second of a session that threads share, by 1, 2, 4 and 8 clients in threads of their own, on one queue and on
-# eight, over those that one client makes step by step on the session itself. What a lock and its release cost, each act
-# taking one. And calls a second with four threads over those with one: at least 1. Printed, not tested.
+# Pairs of a put and a take a second of `pqd serve` by 1, 2, 4 and 8 connections with 64 requests in flight on each,
+# over those by one: each connection with queues of its own, and all with one queue together. All share one session,
+# each act taking its lock. And the processor's time of a pair by eight over that by one. ROUNDS rounds (5), the best of
+# each figure. Printed, not tested. PQD names another pqd than the one that `rt run` left.
 set -eu
-cd "$(dirname "$0")"
-. ./keeping.sh
-cd "../crates/bench_load"
-rt run > /dev/null 2>&1
+pqd=$(realpath -m "${PQD:-$(dirname "$0")/../crates/pqd/out/pqd}")
+if [ ! -x "$pqd" ]; then
+    echo "there is no $pqd: \`rt run\` in crates/pqd leaves it there, and PQD=PATH names another one"
+    exit 1
+fi
+cd "$(dirname "$0")/client"
+work=$(mktemp -d)
+server=
+trap '[ -z "$server" ] || kill "$server" 2> /dev/null || true; rm -r "$work"' EXIT
+gcc -O2 -pthread -o "$work/pairs" ./*.c
 
-# Nanoseconds, calls and acts of the best of ten turns of 4,000 calls a client, after QUEUES and who makes them. All in
-# turns, so that each sees the same machine.
+# Pairs a second, latencies, and microseconds of the server's processor a pair, of a new server: WHICH CONNECTIONS PAIRS
 measure() {
-    for _ in 1 2 3 4 5 6; do
-        for queues in 1 8; do
-            for who in alone plain; do
-                echo "$queues $who $(./out/bench_load $who $queues 4000 10)"
-            done
-            for threads in 1 2 4 8; do
-                echo "$queues $threads $(./out/bench_load threads $queues $threads 4000 10)"
-            done
-        done
+    local port
+    : > "$work/listening"
+    "$pqd" serve --clients 16 --records 4096 --port 0 --workers 8 > "$work/listening" &
+    server=$!
+    until grep -q '^listening ' "$work/listening"; do
+        kill -0 "$server" 2> /dev/null || { echo "pqd does not serve" >&2; exit 1; }
+        sleep 0.1
     done
+    port=$(sed -n 's/^listening .*://p' "$work/listening")
+    echo "$1 $2 $("$work/pairs" "$1" "$port" "$2" 64 "$3" 2 "$server")"
+    kill "$server"
+    wait "$server" 2> /dev/null || true
+    server=
 }
 
-measure | awk '
-    { time = $3 / $4; who = $1 " " $2 }
-    !(who in best) || time < best[who] { best[who] = time }
-    $2 == "alone" { acts[$1] = $5 / $4 }
+# In turns, so that each sees the same machine. A client has room for 4,096 calls in a queue: with its own it goes from
+# one to the next.
+for ((round = 0; round < ${ROUNDS:-5}; round++)); do
+    for connections in 1 2 4 8; do
+        measure pqd "$connections" 16000
+        measure together "$connections" 2000
+    done
+done > "$work/measured"
+
+awk '
+    {
+        row = $1 " " $2
+        if (!(row in rate) || $3 > rate[row]) rate[row] = $3
+        if (!(row in cost) || $7 < cost[row]) cost[row] = $7
+    }
     END {
-        for (queues = 1; queues <= 8; queues += 7) {
-            alone = best[queues " alone"]
-            printf "%d queue%s: %.0f calls a second on the session itself, step by step, %.1f acts a call; %.0f run to their ends\n", \
-                queues, queues == 1 ? "" : "s", 1e9 / alone, acts[queues], 1e9 / best[queues " plain"]
-            for (threads = 1; threads <= 8; threads *= 2) {
-                time = best[queues " " threads]
-                printf "    by %d thread%s: %.0f calls a second, ratio %.2f\n", \
-                    threads, threads == 1 ? "" : "s", 1e9 / time, alone / time
+        name["pqd"] = "queues of their own"
+        name["together"] = "one queue together"
+        for (which in name) {
+            printf "%s:\n", name[which]
+            for (connections = 1; connections <= 8; connections *= 2) {
+                row = which " " connections
+                printf "    %d connection%s: %.0f pairs a second, ratio %.2f; %.1f us of processor a pair\n", \
+                    connections, connections == 1 ? "" : "s", rate[row], rate[row] / rate[which " 1"], cost[row]
             }
-            printf "    a lock and its release: %.0f ns, by one thread\n", (best[queues " 1"] - alone) / acts[queues]
-            printf "    four threads over one: %.2f\n", best[queues " 1"] / best[queues " 4"]
+            printf "    processor a pair, by eight over by one: %.2f\n", cost[which " 8"] / cost[which " 1"]
         }
-    }'
+    }' "$work/measured"
 uptime

@@ -1,10 +1,14 @@
 #!/usr/bin/env bash
-# What no clause says of refused memory: each allocation of crates/test_refusals is refused in turn, and the program ends
-# as where none is, but for the lines that say what was refused. These name the calls of sessions, shared sessions and
-# desks that can be refused memory and that no script makes, and each is made again. The parts of a story are told one
-# at a time, so that a refusal costs that part alone. Then pqx and pqd are run so: each does what it would, or says that
-# there is no memory. Scripts with a line `again` behind each line make what was refused once more. It takes the programs
-# that the last `rt ci`, or `rt run` in their folders, left, or those that REFUSALS, PQX and PQD name.
+# What no clause says of refused memory: programs with each allocation refused in turn (tests/refusing.c).
+#
+# - crates/test_refusals is a session that threads share. It ends as where none is refused, but for the lines that name
+#   the calls which were refused, and each of these is made again.
+# - pqx and pqd do what they would, or say that there is no memory.
+# - Scripts with a line `again` behind each line make what was refused once more.
+# - Requests that pqd refused are sent again.
+#
+# It takes the programs that the last `rt ci`, or `rt run` in their folders, left, or those that REFUSALS, PQX and PQD
+# name.
 set -eu
 cd "$(dirname "$0")/.."
 . tests/cases.sh
@@ -15,78 +19,40 @@ need "$refusals" "$pqx" "$pqd"
 "$(dirname "$(rt doc)")/toolchain/bin/clang" --target=x86_64-unknown-linux-gnu -shared -fPIC -nostdlib -fuse-ld=lld \
     -o "$work/refusing.so" tests/refusing.c
 
-# What a part told, without the lines that say what was refused: FILE
+# What test_refusals told, without the lines that say what was refused: FILE
 told() {
     grep -vE '^(again|unfinished|busy)' "$1"
 }
 
-# Tells a part with this allocation refused, and notes what differs from the part with none refused: PART NUMBER
-play() {
-    local status=0 said=$work/said.$2 err=$work/err.$2
-    REFUSED=$2 LD_PRELOAD=$work/refusing.so "$program" "$1" > "$said" 2> "$err" || status=$?
-    if [ "$status" -ne 0 ] || [ -s "$err" ] || ! told "$said" | cmp -s - "$work/wanted"; then
-        {
-            printf '%s: with allocation %d refused it ends with status %d\n' "$1" "$2" "$status"
-            told "$said" | diff --text "$work/wanted" - | head -n 4
-            head -n 2 "$err"
-        } > "$work/differs.$1.$(printf %06d "$2")"
-    fi
-}
-
-# Tells a part with each of these allocations refused, and notes what was refused: PART NUMBER..
-play_all() {
-    local part=$1 number
-    shift
-    for number; do
-        play "$part" "$number"
+# It is run with none refused, and then with each of its allocations refused, which it says how many there are. What
+# differs is printed.
+refuse_each() {
+    local number status
+    for ((number = 1; number <= $(cat "$work/count"); number++)); do
+        status=0
+        REFUSED=$number LD_PRELOAD=$work/refusing.so "$refusals" > "$work/said" 2> "$work/err" || status=$?
+        if [ "$status" -ne 0 ] || [ -s "$work/err" ] || ! told "$work/said" | cmp -s - "$work/wanted"; then
+            printf 'with allocation %d refused it ends with status %d\n' "$number" "$status"
+            told "$work/said" | diff --text "$work/wanted" - | head -n 4
+            head -n 2 "$work/err"
+        fi
+        grep -E '^(again|changed|unfinished|busy)' "$work/said" >> "$work/seen" || true
     done
-    (cd "$work" && cat "${@/#/said.}" | grep -E '^(again|changed|unfinished|busy)' > "seen.$part.$1" || true)
-    (cd "$work" && rm "${@/#/said.}" "${@/#/err.}")
 }
-export -f told play play_all
-export work program
-
-# A part with none refused, and then with each of its allocations refused, which it says how many there are: PART
-tell() {
-    local number
-    REFUSED=0 LD_PRELOAD=$work/refusing.so "$program" "$1" > "$work/wanted" 2> "$work/count"
-    cat "$work/wanted" >> "$work/out"
-    number=$(cat "$work/count")
-    seq 1 "$number" | xargs -P "$(nproc)" -n 32 bash -c 'play_all "$@"' bash "$1"
-    growths=$((growths + number))
-    judge "each allocation refused: $1" "$(cat "$work/differs.$1."* 2> /dev/null | head -n 20)"
-}
-
-# A program's parts, in their order: FOLDER PART..
-tell_all() {
-    local folder=$1 part
-    shift
-    : > "$work/out"
-    for part; do
-        tell "$part"
-    done
-    : > "$work/err"
-    compare "none refused: $folder" 0 0 "$folder/stdout" /dev/null
-}
-
-growths=0
-program=$refusals tell_all crates/test_refusals sessions shareds desks
-printf 'growths refused: %d\n' "$growths"
+REFUSED=0 LD_PRELOAD=$work/refusing.so "$refusals" > "$work/wanted" 2> "$work/count"
+cp "$work/wanted" "$work/out"
+: > "$work/err"
+compare 'none refused: test_refusals' 0 0 crates/test_refusals/stdout /dev/null
+: > "$work/seen"
+judge 'each allocation refused: test_refusals' "$(refuse_each)"
+printf 'test_refusals: %d allocations refused\n' "$(cat "$work/count")"
 
 # Each call that can be refused was seen to be, and no other one.
-cat "$work"/seen.* | sort -u > "$work/seen"
+sort -u "$work/seen" > "$work/names"
 while read -r line; do
-    judge "$line" "$(grep -qx "$line" "$work/seen" || echo 'was never said')"
+    judge "$line" "$(grep -qx "$line" "$work/names" || echo 'was never said')"
 done < tests/memory/again
-judge 'what was said' "$(grep -vxf tests/memory/again "$work/seen" || true)"
-
-# Whether a program with an allocation refused wrote all that it writes with none refused: a line that tells of it may
-# stand for any line of a server's.
-is_whole() {
-    [ -s "$work/err" ] && return 1
-    cmp -s "$work/out" "$work/wanted" && return 0
-    grep -qE '^({"error":6,|{"reply":"unfinished"})' "$work/out" && [ "$(wc -l < "$work/out")" -eq "$(wc -l < "$work/wanted")" ]
-}
+judge 'what was said' "$(grep -vxf tests/memory/again "$work/names" || true)"
 
 # Whether what it wrote is a beginning of that.
 is_beginning() {
@@ -99,13 +65,13 @@ refuse() {
     local name=$1 input=$2 number status refused=0 said=
     shift 2
     REFUSED=0 LD_PRELOAD=$work/refusing.so "$@" < "$input" > "$work/wanted" 2> "$work/count"
-    printf '%s: 6 NoMemory\n' "${1##*/}" > "$work/fault"
+    printf 'pqx: 6 NoMemory\n' > "$work/fault"
     for ((number = 1; number <= $(cat "$work/count"); number++)); do
         status=0
         REFUSED=$number LD_PRELOAD=$work/refusing.so "$@" < "$input" > "$work/out" 2> "$work/err" || status=$?
         if [ "$status" -eq 1 ] && is_beginning && cmp -s "$work/err" "$work/fault"; then
             refused=$((refused + 1))
-        elif [ "$status" -ne 0 ] || ! is_whole; then
+        elif [ "$status" -ne 0 ] || [ -s "$work/err" ] || ! cmp -s "$work/out" "$work/wanted"; then
             said+="with allocation $number refused it ends with status $status: $(head -n 2 "$work/err")"$'\n'
         fi
     done
@@ -113,6 +79,7 @@ refuse() {
     judge "each allocation refused: $name" "$(head -n 20 <<< "$said")"
     printf '%s: %d of %d allocations refused are said\n' "$name" "$refused" "$(cat "$work/count")"
 }
+
 # A script with `again` behind each line, with each allocation refused in turn: it prints what it does where none is
 # refused, but that an act was refused for want of memory, which is made again; or it says that there is no memory.
 # Lines that begin with these words were made again: NAME WORDS SCRIPT WORD..
@@ -138,11 +105,31 @@ again log 'call content crash order ready refused return' tests/memory/log.scrip
 words='booted call content crash created creating evict found image order queues ready recovering refused renewed'
 again broker "$words return rotated set told" tests/memory/broker.script broker run
 again numbers 'call content crash created order ready recovering refused reply return' tests/memory/numbers.script broker run
+again plain 'content created reply' tests/memory/plain.script broker run
 printf '%s\n' 'broker 1 1' 'create a log 1' image > "$work/in"
 refuse 'pqx broker points' "$work/in" "$pqx" broker points
-printf '%s\n' '{"op":"create","queue":"a","kind":"log"}' '{"op":"put","client":0,"queue":"a","number":1,"value":"09000000"}' \
-    '{"op":"take","client":0,"queue":"a","number":2}' '{"op":"crash"}' '{"op":"recover"}' '{"op":"stop"}' > "$work/in"
-refuse 'pqd pipe' "$work/in" "$pqd" pipe
+
+# Requests that are refused memory are sent again, and calls that are left unfinished are finished: which ones. A pipe
+# has its session for itself, and the desk of a server shares it.
+status=0
+timeout 300 python3 -B tests/requests_refused.py "$pqd" "$work/refusing.so" tests/memory pipe:created pipe:told \
+    pipe:down pipe:stopped serve:desk > "$work/out" || status=$?
+cat "$work/out"
+judge 'each allocation refused: pqd' "$([ "$status" -eq 0 ] || echo "status $status")"
+while read -r line; do
+    judge "$line" "$(grep -qxF "$line" "$work/out" || echo 'others were')"
+done < tests/memory/requests
+
+# A copy of that script in which a comparison is turned says what it then finds: OLD NEW SAID
+wrong_requests() {
+    sed "s/$1/$2/" tests/requests_refused.py > "$work/wrong.py"
+    timeout 300 python3 -B "$work/wrong.py" "$pqd" "$work/refusing.so" tests/memory pipe:created > "$work/out" || true
+    judge "requests with '$2'" "$(grep -q "$3" "$work/out" || echo "it does not say: $3")"
+}
+wrong_requests 'self.look() != seen' 'self.look() == seen' 'is refused memory, and changes something'
+wrong_requests 'image_at(path) != self.image' 'image_at(path) == self.image' 'without memory, and changes the image'
+wrong_requests 'image_at(path) != self.left' 'image_at(path) == self.left' 'it leaves another image'
+wrong_requests 'found not in' 'found in' 'is answered'
 
 # A server whose queues are renewed while it serves: PROGRAM
 serving_refused() {

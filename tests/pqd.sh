@@ -254,7 +254,7 @@ no_image 'an image of no words' '3 BadCount'
 { head -c 12 "$work/first"; printf '\021'; tail -c +14 "$work/first"; } > "$image"
 no_image 'an image that breaks a rule' '29 Damaged'
 
-# Every 68th beginning of an image is cut off, and every 52nd of one of numbers: crates/test_hostile tries each.
+# Every 68th beginning of an image is cut off, and every 52nd of one of numbers: that each is refused, a clause says.
 for ((bytes = 0; bytes < 2396; bytes += 68)); do
     head -c "$bytes" "$work/first" > "$image"
     no_image "an image of which $bytes bytes are there" '4 Truncated'

@@ -78,7 +78,7 @@ impl<W: KeptWords> KeptQueue<'_, W> {
             (IsClaimTable self.now.shape (kept_of self.now) (λ n. slice_index claimed.new n)) }
     {
         // A link back would keep recovery walking for ever, and a link to an unused record would put a value into the
-        // queue before its enqueue took effect: `a_broker_with_two_queues` of test_hostile.
+        // queue before its enqueue took effect: the two queues of bench/plain/every_image_byte.py.
         if !self.is_chain_sound(place) {
             return Some(Rule::Chain);
         }

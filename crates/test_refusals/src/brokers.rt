@@ -1,14 +1,36 @@
-//! What can be seen of a broker.
+//! What can be seen of a session, and of its broker.
 
-use crate::again::Image;
 use arena::{SLOTS, SlotId};
 use events::History;
 use named::Broker;
+use persist::{HEADER_BYTES, NUMBER_BYTES};
+use session::Session;
+use std::fmt;
 use std::fmt::Write;
 use words::{Client, Refusal};
 
-/// How many clients there are.
-pub(crate) const CLIENTS: u8 = 2;
+/// One more than there are clients.
+const CLIENTS: u8 = 2;
+
+/// An image, of which the words that are not 0 are shown.
+#[derive(Drop)]
+struct Image(Vec<u8>);
+
+impl fmt::Debug for Image {
+    fn fmt<W: fmt::Write>(&self, f: &mut fmt::Formatter<W>) -> fmt::Result {
+        write!(f, "{} bytes", self.0.len())?;
+        let Some((_, words)) = self.0.split_first_chunk::<HEADER_BYTES>() else {
+            return Ok(());
+        };
+        for (word, bytes) in words.as_chunks::<NUMBER_BYTES>().0.iter().enumerate() {
+            let value = u64::from_le_bytes(*bytes);
+            if value != 0 {
+                write!(f, " {word}={value}")?;
+            }
+        }
+        Ok(())
+    }
+}
 
 /// Writes what a history has.
 fn write_history(history: &History, text: &mut String) -> Result<(), Refusal> {
@@ -48,7 +70,7 @@ fn write_slot(broker: &Broker, slot: SlotId, text: &mut String) -> Result<(), Re
 }
 
 /// Writes all that can be seen of a broker.
-pub(crate) fn write_broker(broker: &Broker, text: &mut String) -> Result<(), Refusal> {
+fn write_broker(broker: &Broker, text: &mut String) -> Result<(), Refusal> {
     let image = Image(broker.to_image()?);
     let creating = broker.is_creating();
     let list = broker.list();
@@ -59,4 +81,20 @@ pub(crate) fn write_broker(broker: &Broker, text: &mut String) -> Result<(), Ref
         write_slot(broker, SlotId(slot as u8), text)?;
     }
     Ok(())
+}
+
+/// Writes the last verdict that each client was given in a slot.
+fn write_last(session: &Session, slot: SlotId, text: &mut String) -> Result<(), Refusal> {
+    for client in 0..CLIENTS {
+        let last = session.last(Client(client), slot);
+        write!(text, "last {last:?} ").map_err(|_| Refusal::NoMemory)?;
+    }
+    Ok(())
+}
+
+/// Writes all that can be seen of a session. It fails where memory is refused.
+pub(crate) fn write_session(session: &Session, text: &mut String) -> Result<(), Refusal> {
+    write_last(session, SlotId(0), text)?;
+    write_last(session, SlotId(1), text)?;
+    write_broker(session.broker(), text)
 }

@@ -5,28 +5,20 @@ ghost use Rattle.std.specs.Prelude.{◌≡◌, IfOk};
 ghost use Rattle.workers.specs.Opening.{IsNameOf};
 ghost use Rattle.workers.specs.Seats.{AreAllInOrder};
 
-use crate::acts::Act;
-use crate::again::{MOST_TRIES, play, say_again, seen};
+use crate::again::{MOST_TRIES, say_again, seen};
 use crate::calls::call;
 use crate::seats::{CLIENT, DURABLE, LOG, all, only, seen_beside};
-use crate::sessions::uncalled;
 use arena::SlotId;
 use directory::Name;
 use session::Session;
+use std::alloc::Global;
 use std::marker::Brand;
 use std::sync::{Mutex, Wait};
 use test_support::Wish;
+use test_support::sessions::{create, new_session};
 use test_support::steps::LOG_CLAIM_KEPT;
 use words::{Client, Kind, Refusal};
 use workers::{Gate, Naming, OpenGate, Opened, Operator, Request, Seat, Shared};
-
-/// The queues before the session is shared.
-static QUEUES: [(u32, Act); 4] = [
-    (1, Act::Create("a", Kind::Log)),
-    (12, Act::CreateStep),
-    (1, Act::Create("b", Kind::Durable)),
-    (12, Act::CreateStep),
-];
 
 /// A part of the story.
 #[derive(Clone, Copy)]
@@ -37,8 +29,6 @@ enum Part {
     CutOff(Option<u64>, Wish, u32),
     Crash,
     Recover,
-    /// A third queue is created.
-    Create,
     /// The histories end, and the queue of a slot begins in fresh records, if one is named.
     BeginAnew(Option<SlotId>),
     /// What the seat remembers is printed.
@@ -48,7 +38,7 @@ enum Part {
 }
 
 /// The story.
-static PARTS: [Part; 27] = [
+static PARTS: [Part; 26] = [
     Part::Call(Some(1), Wish::Enq(7)),
     Part::Call(Some(2), Wish::Enq(8)),
     Part::Call(None, Wish::Enq(5)),
@@ -62,7 +52,6 @@ static PARTS: [Part; 27] = [
     Part::Recover,
     Part::Call(None, Wish::Deq),
     Part::List,
-    Part::Create,
     Part::BeginAnew(None),
     Part::Call(Some(4), Wish::Enq(9)),
     Part::Call(Some(5), Wish::Deq),
@@ -226,12 +215,6 @@ fn show_usage<J: Naming, R: Wait + Print>(rt: &R, shared: &Shared<J>) -> Result<
     Err(Refusal::NoMemory)
 }
 
-/// Creates a third queue.
-fn create<J: Naming, R: Wait + Print>(rt: &R, shared: &Shared<J>) {
-    let (created, _receipt) = shared.create(rt, b"c", Kind::Log);
-    let _ = println!(rt; "a queue: {created:?}");
-}
-
 /// The seat, once this is done.
 fn kept<J: Naming>(seat: Seat<J>, done: Result<(), Refusal>) -> Result<Seat<J>, Refusal>
     ensures { IfOk result (λ next. next.client ≡ seat.client) }
@@ -264,10 +247,6 @@ fn play_part<J: Naming, R: Wait + Print + AllocGlobal>(
         }
         Part::Crash => kept(seat, crash(rt, shared, post)),
         Part::Recover => kept(seat, recover(rt, shared)),
-        Part::Create => {
-            create(rt, shared);
-            Ok(seat)
-        }
         Part::BeginAnew(slot) => begin_anew(rt, shared, seat, slot),
         Part::List => {
             show_list(rt, &seat);
@@ -345,11 +324,21 @@ fn opened<R: Print + AllocGlobal>(rt: &R, session: Session) -> Result<Opened, Re
     Err(Refusal::NoMemory)
 }
 
+/// A session with queues of both kinds. Making it is no call of the story: it is made again unsaid.
+fn with_queues(alloc: Global) -> Result<Session, Refusal> {
+    for _ in 0..MOST_TRIES {
+        if let Ok(mut session) = new_session(alloc, 1, 6) {
+            create(&mut session, LOG, Kind::Log)?;
+            create(&mut session, DURABLE, Kind::Durable)?;
+            return Ok(session);
+        }
+    }
+    Err(Refusal::NoMemory)
+}
+
 /// A shared session.
 pub(crate) fn tell<R: Wait + Print + AllocGlobal>(rt: &R) -> Result<(), Refusal> {
-    let _ = println!(rt; "# A shared session");
-    let mut session = Session::open(uncalled(rt, 1)?);
-    play(rt, &mut session, &QUEUES)?;
+    let mut session = with_queues(rt.alloc())?;
     let before = seen(rt.alloc(), &session)?;
     for _ in 0..MOST_TRIES {
         let opened = opened(rt, session)?;

@@ -7,11 +7,11 @@ ghost use Rattle.named.specs.Brokers.{world_at};
 ghost use Rattle.named.specs.Slots.{IsWhyUnread};
 ghost use Rattle.test_support.specs.Calls.{caller_of};
 
-pub mod brokers;
 mod draws;
 mod items;
 pub mod sessions;
 pub mod steps;
+pub mod told;
 
 use arena::{SLOTS, SlotId};
 use checker::check_content;
@@ -19,7 +19,7 @@ pub use draws::below;
 use history::{Event, Events};
 pub use items::{Said, Wish, are_items, item, number_of};
 use named::Broker;
-use std::alloc::{AllocError, Global};
+use std::alloc::Global;
 use words::Refusal;
 
 /// Whether the order of the slot's queue explains its history, and the queue holds what its replay leaves, by the
@@ -47,18 +47,6 @@ pub fn are_explained(alloc: Global, broker: &Broker) -> Result<bool, Refusal>
         };
     }
     Ok(right)
-}
-
-/// A history's events, of these.
-pub fn events_of(alloc: Global, events: &[Event]) -> Result<Events, AllocError>
-    ensures { IfOk result (λ list. list.items ≡ events.now) }
-{
-    let mut list = Events::new(alloc);
-    for event in events {
-        list.reserve(1)?;
-        list.push(*event);
-    }
-    Ok(list)
 }
 
 /// The client and the number of the call at this place of a history, if there is one.

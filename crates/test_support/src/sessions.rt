@@ -1,6 +1,5 @@
 //! Sessions over new brokers.
 
-use crate::brokers::MOST_STEPS;
 use arena::SlotId;
 use named::Broker;
 use session::Session;
@@ -10,8 +9,8 @@ use words::{Kind, Refusal};
 /// The slot of the first queue, of which most tests have no other.
 pub const A: SlotId = SlotId(0);
 
-/// The slot of the second queue.
-pub const B: SlotId = SlotId(1);
+/// More steps than a creation takes.
+const MOST_STEPS: u32 = 100;
 
 /// A session over a new broker, which has no queue.
 pub fn new_session(alloc: Global, clients: u32, records: u32) -> Result<Session, Refusal> {

@@ -1,10 +1,5 @@
-//! How far the calls and the creations that tests interrupt have come: after so many steps of an undisturbed one, its
+//! How far the calls that tests interrupt have come: after so many steps of an undisturbed one, its
 //! start apart, the last step did what the constant's name says. The tables of steps stand in docs/TABLES.md.
-
-use directory::CREATION_STEPS;
-
-/// The slot is open.
-pub const CREATED: u32 = CREATION_STEPS as u32;
 
 /// The node of a durable queue's enqueue is linked. The link is not kept yet.
 pub const DURABLE_LINKED: u32 = 19;
@@ -18,8 +13,5 @@ pub const LOG_ENQUEUE_ANNOUNCED: u32 = 30;
 /// Its link is kept: it takes effect.
 pub const LOG_LINK_KEPT: u32 = 36;
 
-/// A log queue's dequeue is announced.
-pub const LOG_DEQUEUE_ANNOUNCED: u32 = 12;
-
-/// Its claim is kept: it takes effect.
+/// The claim of a log queue's dequeue is kept: it takes effect.
 pub const LOG_CLAIM_KEPT: u32 = 23;

@@ -18,10 +18,10 @@ use std::sync::Wait;
 use std::test::*;
 use std::thread::Threads;
 use std::time::Clock;
-use test_support::brokers::{not_taken, taken};
 use test_support::item;
 use test_support::sessions::{A, with_queue};
 use test_support::steps::{LOG_ENQUEUE_ANNOUNCED, LOG_LINK_KEPT};
+use test_support::told::{not_taken, taken};
 use words::{Call, Client, Kind, Refusal, Reply, Told, Value};
 use workers::{Answer, Naming, OpenGate, Opened, Operator, Request, Seat, Shared};
 
