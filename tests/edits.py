@@ -1,7 +1,7 @@
 #!/usr/bin/env python3
 """The wrong bodies that the prover has to refuse: tests/edits/CRATE/NAME.edit, in the form of crates/CRATE/must-fail.
 
-  tests/edits.py applies            says whether each one still applies: its old text stands once in the file that it names
+  tests/edits.py applies            says whether each still applies: its old text stands once in the file that it names
   tests/edits.py try [CRATE..]      tries those of these crates, or all, the ones in must-fail too, over what earlier
                                     checks kept in out/, and says by which goal each is refused
 
@@ -93,29 +93,45 @@ def tried(rt, crate, edit):
     return well
 
 
+def wanted(crates, names):
+    """The crates of these names, or all, that have edits."""
+    for name in names:
+        if name not in {it.name for it in crates}:
+            sys.exit(f"crates.txt lists no crate {name}")
+    return [it for it in crates if (not names or it.name in names) and edits_of(it.name, True)]
+
+
+def tasks_of(rt, crates, chosen):
+    """What is to be done for the edits of these crates, as `in_lanes` of the kit takes it: each crate is proved once
+    those below it are, and each edit is tried once its crate is."""
+    used = {below.name for it in crates for below in it.below()}
+    needed = {it.name for crate in chosen for it in [crate, *crate.below()]}
+    tasks = {}
+    for crate in [it for it in crates if it.name in needed]:
+        waits = [(it.name, "proof") for it in crate.below()]
+
+        def prove(given, jobs, crate=crate, waits=waits):
+            return all(given[it] for it in waits) and proved(rt, crate, crate.name in used)
+
+        tasks[crate.name, "proof"] = (waits, crate.count(rb"\n"), rt.need(crate), prove)
+    for crate in chosen:
+        for edit in edits_of(crate.name, True):
+
+            def test(given, jobs, crate=crate, edit=edit):
+                return given[crate.name, "proof"] and tried(rt, crate, edit)
+
+            tasks[crate.name, edit] = ([(crate.name, "proof")], 1, rt.need(crate), test)
+    return tasks
+
+
 def try_all(names):
     """Proves what is to be proved, tries each edit of these crates, and counts those that were refused."""
     rt = kit()
     rt.rtlib.guarded()
     os.chdir(TOP)
+    # (lowest first, as `in_lanes` wants them)
     crates = sorted(rt.rtlib.crates_below(TOP), key=lambda it: len(it.below()))
-    known = {it.name for it in crates}
-    for name in names:
-        if name not in known:
-            sys.exit(f"crates.txt lists no crate {name}")
-    wanted = [it for it in crates if not names or it.name in names]
-    wanted = [it for it in wanted if edits_of(it.name, True)]
-    used = {below.name for it in crates for below in it.below()}
-    below = {it.name for crate in wanted for it in [crate, *crate.below()]}
-    tasks = {}
-    for crate in [it for it in crates if it.name in below]:
-        waits = [(it.name, "proof") for it in crate.below()]
-        is_ready = lambda given, waits: all(given[it] for it in waits)
-        tasks[crate.name, "proof"] = (waits, crate.count(rb"\n"), rt.need(crate), lambda given, jobs, it=crate, on=waits: is_ready(given, on) and proved(rt, it, it.name in used))
-    for crate in wanted:
-        for edit in edits_of(crate.name, True):
-            tasks[crate.name, edit] = ([(crate.name, "proof")], 1, rt.need(crate), lambda given, jobs, it=crate, at=edit: given[it.name, "proof"] and tried(rt, it, at))
-    given = rt.in_lanes(tasks)
+    given = rt.in_lanes(tasks_of(rt, crates, wanted(crates, names)))
     refused = [well for (_, what), well in given.items() if what != "proof"]
     unproved = sorted(name for (name, what), well in given.items() if what == "proof" and not well)
     if unproved:
