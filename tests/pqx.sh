@@ -188,17 +188,25 @@ status=0
 compare 'points --page' 0 "$status" "$data/points-log-enqueue.points" /dev/null
 judge 'the page' "$(difference 'the page' tests/pages/points-log-enqueue.html "$work/page")"
 status=0
+drawn=(--from 28 --count 9 --evict drawn --draw 7)
+"$pqx" points "${drawn[@]}" < "$data/points-log-enqueue.script" > "$work/wanted"
+"$pqx" points "${drawn[@]}" --page "$work/page" < "$data/points-log-enqueue.script" > "$work/out" 2> "$work/err" ||
+    status=$?
+compare 'points --page of a part' 0 "$status" "$work/wanted" /dev/null
+judge 'the page of a part' "$(difference 'the page' tests/pages/points-part-drawn.html "$work/page")"
+status=0
 printf 'pqx: 27 WriteFailed\n' > "$work/wanted"
 "$pqx" points --page "$work/none/page" < "$data/points-log-enqueue.script" > "$work/out" 2> "$work/err" || status=$?
 compare 'a page without a folder' 1 "$status" "$data/points-log-enqueue.points" "$work/wanted"
 
 # The page of a run: the same on standard output, and the stored page in its file. A file that cannot be written.
-for script in crash kept; do
+for script in examples/crash.script examples/kept.script tests/pages/*.script; do
     status=0
-    "$pqx" run < "examples/$script.script" > "$work/wanted"
-    "$pqx" run --page "$work/page" < "examples/$script.script" > "$work/out" 2> "$work/err" || status=$?
-    compare "run --page $script" 0 "$status" "$work/wanted" /dev/null
-    judge "the page of $script" "$(difference 'the page' "tests/pages/$script.html" "$work/page")"
+    name=$(basename "$script" .script)
+    "$pqx" run < "$script" > "$work/wanted"
+    "$pqx" run --page "$work/page" < "$script" > "$work/out" 2> "$work/err" || status=$?
+    compare "run --page $name" 0 "$status" "$work/wanted" /dev/null
+    judge "the page of $name" "$(difference 'the page' "tests/pages/$name.html" "$work/page")"
 done
 status=0
 cp "$work/wanted" "$work/transcript"

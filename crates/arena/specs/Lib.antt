@@ -14,3 +14,4 @@ pub mod Words
 pub mod Chain
 pub mod Content
 pub mod Broker
+pub mod Names

@@ -3,6 +3,7 @@
 ghost use Rattle.std.specs.Prelude.{◌≡◌, slice_index};
 ghost use Rattle.arena.specs.Words.{item_part, value_of};
 
+use std::fmt;
 use words::{Client, NodeId, Token, Value};
 
 /// A part of an item: its length, or one of the three words of its bytes.
@@ -43,6 +44,49 @@ pub enum Place {
     Status(Token),
     /// Log: the node that the entry inserts, or the one that it removed.
     EntryNode(Token),
+}
+
+/// As a page names it: `length`, `first word`.
+impl fmt::Display for Part {
+    ghost use Rattle.std.specs.Prelude.{Some};
+    ghost use Rattle.arena.specs.Names.{part_name};
+
+    ghost output = { λ part. Some (part_name part) };
+
+    fn fmt<W: fmt::Write>(&self, f: &mut fmt::Formatter<W>) -> fmt::Result {
+        match self {
+            Part::Length => write!(f, "length"),
+            Part::First => write!(f, "first word"),
+            Part::Second => write!(f, "second word"),
+            Part::Third => write!(f, "third word"),
+        }
+    }
+}
+
+/// As a page names it: `head`, `link of node 2`, `item of node 0, length`.
+impl fmt::Display for Place {
+    ghost use Rattle.std.specs.Prelude.{Some};
+    ghost use Rattle.arena.specs.Names.{place_name};
+
+    ghost output = { λ place. Some (place_name place) };
+
+    fn fmt<W: fmt::Write>(&self, f: &mut fmt::Formatter<W>) -> fmt::Result {
+        match self {
+            Place::Head => write!(f, "head"),
+            Place::Tail => write!(f, "tail"),
+            Place::Announcement(client) => write!(f, "announcement of client {}", client.0),
+            Place::Bump(client) => write!(f, "bump of client {}", client.0),
+            Place::Item(node, part) => write!(f, "item of node {}, {part}", node.0),
+            Place::Next(node) => write!(f, "link of node {}", node.0),
+            Place::Mark(node) => write!(f, "mark of node {}", node.0),
+            Place::Cell(token) => write!(f, "cell {}", token.0),
+            Place::Insert(node) => write!(f, "insert of node {}", node.0),
+            Place::Number(token) => write!(f, "number of entry {}", token.0),
+            Place::EntryKind(token) => write!(f, "kind of entry {}", token.0),
+            Place::Status(token) => write!(f, "status of entry {}", token.0),
+            Place::EntryNode(token) => write!(f, "node of entry {}", token.0),
+        }
+    }
 }
 
 /// A value that is to be written at a place.

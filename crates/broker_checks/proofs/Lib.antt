@@ -1,3 +1,2 @@
-mod Drawing
 mod Explaining
 pub mod Facts

@@ -2,10 +2,8 @@
 //! there and explained once recovery has ended, and the line that says so.
 #![tactic(auto)]
 
-mod evicting;
 mod kept;
 mod texts;
 
-pub use evicting::words_kept;
 pub use kept::{are_explained, are_kept};
 pub use texts::line;

@@ -11,11 +11,11 @@ ghost use Rattle.broker_points.specs.Points.{downtime, eviction, IsPointAfterAll
 ghost use Rattle.broker_checks.specs.Reports.{line_of_point};
 
 use arena::{BrokerLayout, SLOTS};
-use broker_checks::{are_explained, are_kept, line, words_kept};
+use broker_checks::{are_explained, are_kept, line};
 use broker_lines::{BrokerLine, Printed, Statement};
 use broker_script::Player;
 use directory::Places;
-use explore::Evictions;
+use explore::{Evictions, words_kept};
 use grammar::Command;
 use named::Broker;
 use std::alloc::Global;

@@ -1,5 +1,5 @@
--- What draws evict, and how many words, is what the first draw does and then the rest.
-use Rattle.std.proofs.Common.{◌≡◌, ◌+◌, ◌%◌, ◌==◌, ℕ, suc, map, refl, sym, ap, eq-eqb, ne_eqb, ◌∙◌, List, ◌∷◌, true, false, length, arith}
+-- What draws evict is what the first draw does and then the rest.
+use Rattle.std.proofs.Common.{◌≡◌, ◌+◌, ◌%◌, ◌==◌, ℕ, suc, map, refl, sym, ap, eq-eqb, ne_eqb, ◌∙◌, List, ◌∷◌, true, false}
 use Rattle.std.specs.Prelude.{Bool, if◌then◌else◌}
 use Rattle.protocol.specs.declared.acts.Act.TheVariants.{Evict}
 use Rattle.interleave.specs.State.{State, after_acts, after_evict}
@@ -11,10 +11,6 @@ use Rattle.explore.specs.Points.{drawn_words}
 pub after_draw : Bool → State → ℕ → State
 after_draw true w word = after_evict w word
 after_draw false w word = w
-
-one_if : Bool → ℕ
-one_if true = 1
-one_if false = 0
 
 by_bit : (b : Bool) (w : State) (word : ℕ) (rest : List ℕ)
     → after_acts w (map Evict (if b then word ∷ rest else rest)) ≡ after_acts (after_draw b w word) (map Evict rest)
@@ -50,29 +46,3 @@ draw_passed w v words word bits draws next drew left none same =
     ap (λ u. after_acts u (map Evict (drawn_words words (word + 1) next))) same
     ∙ ap (λ d. after_acts w (map Evict (drawn_words words (word + 1) d))) left
     ∙ sym (draw_on w words word draws false (ne_eqb ((pcg32 draws).0 % 2) 1 (λ one. none (ap (λ n. n % 2) drew ∙ one))))
-
--- how many words are drawn, by the first draw
-long_by_bit : (b : Bool) (word : ℕ) (rest : List ℕ) → length (if b then word ∷ rest else rest) ≡ one_if b + length rest
-unfolding one_if
-long_by_bit true word rest = omega arith
-long_by_bit false word rest = omega arith
-
-long_on : (words word : ℕ) (draws : Lcg) (b : Bool) → ((pcg32 draws).0 % 2 == 1) ≡ b
-    → length (drawn_words (suc words) word draws) ≡ one_if b + length (drawn_words words (word + 1) (pcg32 draws).1)
-long_on words word draws b is =
-    long_by_bit ((pcg32 draws).0 % 2 == 1) word (drawn_words words (word + 1) (pcg32 draws).1)
-    ∙ ap (λ v. one_if v + length (drawn_words words (word + 1) (pcg32 draws).1)) is
-
-pub count_taken : (words word bits : ℕ) (draws next : Lcg) → bits ≡ (pcg32 draws).0 → next ≡ (pcg32 draws).1
-    → bits % 2 ≡ 1 → length (drawn_words (suc words) word draws) ≡ 1 + length (drawn_words words (word + 1) next)
-unfolding one_if
-count_taken words word bits draws next drew left one =
-    long_on words word draws true (eq-eqb ((pcg32 draws).0 % 2) 1 (ap (λ n. n % 2) (sym drew) ∙ one))
-    ∙ ap (λ d. 1 + length (drawn_words words (word + 1) d)) (sym left)
-
-pub count_passed : (words word bits : ℕ) (draws next : Lcg) → bits ≡ (pcg32 draws).0 → next ≡ (pcg32 draws).1
-    → (bits % 2 ≡ 1 → ⊥) → length (drawn_words (suc words) word draws) ≡ 0 + length (drawn_words words (word + 1) next)
-unfolding one_if
-count_passed words word bits draws next drew left none =
-    long_on words word draws false (ne_eqb ((pcg32 draws).0 % 2) 1 (λ one. none (ap (λ n. n % 2) drew ∙ one)))
-    ∙ ap (λ d. 0 + length (drawn_words words (word + 1) d)) (sym left)

@@ -1,4 +1,5 @@
 mod Draws
+mod Drawing
 mod Crashes
 mod Explained
 mod Sizes

@@ -1,6 +1,6 @@
 //! Which words the environment keeps just before a crash.
 
-ghost use Rattle.std.specs.Prelude.{◌≡◌, length, map};
+ghost use Rattle.std.specs.Prelude.{◌≡◌, IfErr, IfOk, map};
 ghost use Rattle.interleave.specs.State.{after_acts};
 ghost use Rattle.protocol.specs.declared.acts.Act.TheVariants.{Evict};
 ghost use Rattle.std.specs.List.{range_with_len};
@@ -9,8 +9,11 @@ ghost use Rattle.rand_pcg.specs.Pcg.{multiplier_64};
 ghost use Rattle.explore.specs.Points.{drawn_words, evicted_words, evictions_at};
 
 use interleave::World;
+use playing::push;
 use rand_core::utils::NextWord;
 use rand_pcg::Pcg32;
+use std::alloc::Global;
+use words::Refusal;
 
 /// Which words are evicted before each crash, from word 0 up.
 #[derive(Clone, Copy)]
@@ -65,26 +68,45 @@ pub(crate) fn evict_words(world: &mut World, evictions: Evictions, point: u64)
     }
 }
 
-/// How many words are drawn.
-fn drawn_count(words: usize, mut draws: Pcg32) -> usize
-    ensures { result ≡ length (drawn_words words 0 draws) }
+/// All of so many words.
+fn all_words(alloc: Global, size: usize) -> Result<Vec<usize>, Refusal>
+    ensures words { IfOk result (λ words. words.items ≡ range_with_len 0 size) }
+    ensures errors { IfErr result (λ e. e ≡ Refusal.NoMemory) }
 {
-    let mut count = 0;
-    for _ in 0..words {
-        if draws.next_word() % 2 == 1 {
-            count += 1;
-        }
+    let mut words = Vec::new(alloc);
+    for word in 0..size {
+        push(&mut words, word)?;
     }
-    count
+    Ok(words)
 }
 
-/// How many of so many words are evicted before the crash at a point.
-pub fn evicted_count(evictions: Evictions, words: usize, point: u64) -> usize
-    ensures { result ≡ length (evicted_words evictions words point) }
+/// Those that are drawn: a word is kept where the lowest bit of its draw is 1.
+fn drawn_words(alloc: Global, size: usize, mut draws: Pcg32) -> Result<Vec<usize>, Refusal>
+    ensures words { IfOk result (λ words. words.items ≡ drawn_words size 0 draws) }
+    ensures errors { IfErr result (λ e. e ≡ Refusal.NoMemory) }
+{
+    let mut words = Vec::new(alloc);
+    for word in 0..size {
+        if draws.next_word() % 2 == 1 {
+            push(&mut words, word)?;
+        }
+    }
+    Ok(words)
+}
+
+/// The words that are kept before the crash at a point, of so many, from word 0 up.
+pub fn words_kept(
+    alloc: Global,
+    evictions: Evictions,
+    size: usize,
+    point: u64,
+) -> Result<Vec<usize>, Refusal>
+    ensures words { IfOk result (λ words. words.items ≡ evicted_words evictions size point) }
+    ensures errors { IfErr result (λ e. e ≡ Refusal.NoMemory) }
 {
     match evictions {
-        Evictions::None => 0,
-        Evictions::All => words,
-        Evictions::Drawn { state } => drawn_count(words, draws_at(state, point)),
+        Evictions::None => Ok(Vec::new(alloc)),
+        Evictions::All => all_words(alloc, size),
+        Evictions::Drawn { state } => drawn_words(alloc, size, draws_at(state, point)),
     }
 }

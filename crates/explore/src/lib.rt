@@ -11,7 +11,7 @@ mod sweep;
 mod walk;
 mod watch;
 
-pub use evictions::{Evictions, evicted_count};
+pub use evictions::{Evictions, words_kept};
 pub use part::{Part, WHOLE, Wanted};
 pub use point::Point;
 pub use sweep::{Report, points, watched_points};

@@ -2,7 +2,8 @@
 pub use Rattle.interleave.proofs.words.Requests.{AskElsewhere, all_same, around_alone, around_recovered, around_stepped}
 pub use Rattle.interleave.proofs.words.Requests.{asked_alone, asked_at_boot, asked_at_first, asked_evicted}
 pub use Rattle.interleave.proofs.words.Requests.{asked_recovered}
-pub use Rattle.interleave.proofs.words.Requests.{asked_same, asked_started, asked_stepped}
+pub use Rattle.interleave.proofs.words.Requests.{asked_same, asked_started, asked_stepped, unasked_for}
+pub use Rattle.interleave.proofs.words.Requests.{Returned, returned}
 pub use Rattle.interleave.proofs.recovery.Downtime.{became_ready, some_left}
 pub use Rattle.interleave.proofs.machine.Holding.{call_fits, explained_world, holds_after_crash, holds_after_recover}
 pub use Rattle.interleave.proofs.machine.Starts.{IsTaken, IsWhyUnstarted, stale_start, startable, taken}
@@ -22,6 +23,7 @@ pub use Rattle.interleave.proofs.words.Boots.{holds_booted}
 pub use Rattle.interleave.proofs.machine.Evictions.{evicted_change, evicted_world}
 pub use Rattle.interleave.proofs.machine.Invariants.{room_held}
 pub use Rattle.interleave.proofs.words.ZeroWords.{holds_over}
+pub use Rattle.interleave.proofs.words.UnusedWords.{zero_words_are_unused}
 pub use Rattle.interleave.proofs.verdicts.Carried.{last_rotated, one_verdict, recalled_rotated, rested_rotated}
 pub use Rattle.interleave.proofs.verdicts.Carried.{uncounted}
 pub use Rattle.interleave.proofs.verdicts.Given.{last_new, none_above, one_reply, recalled_last, recalled_none}

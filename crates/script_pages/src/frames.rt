@@ -1,15 +1,15 @@
-//! What each act of a script does: the answer that it gives, and the words that differ after it.
+//! What each act of a script does: its access, the answer that it gives, and the words that differ after it.
 
 ghost use Rattle.std.specs.Prelude.{◌≡◌, IfErr};
-ghost use Rattle.grammar.specs.Grammar.{IsServedQueue};
 
+use crate::stage::{Made, Stage};
 use arena::Layout;
-use attempts::{accepted_acts, attempt};
-use grammar::{Command, QueueLine};
-use interleave::{Act, World};
+use attempts::accepted_acts;
+use grammar::Command;
+use interleave::Act;
 use persist::KeptWords;
 use std::alloc::Global;
-use words::{Refusal, Reply};
+use words::Refusal;
 
 /// A word whose cached value is not the kept one.
 #[derive(Clone, Copy)]
@@ -19,34 +19,19 @@ pub(crate) struct Differs {
     pub(crate) kept: u64,
 }
 
-/// An act, the reply with which a call returned by it, and the words that differ after it, ascending.
+/// An act, what it came to, and the words that differ after it, ascending.
 #[derive(Drop)]
 pub(crate) struct Frame {
     pub(crate) act: Act,
-    pub(crate) reply: Option<Reply>,
+    pub(crate) made: Made,
     pub(crate) differs: Vec<Differs>,
 }
 
-/// Makes an act, and answers with which reply a call returned by it.
-fn make(world: &mut World, act: &Act) -> Result<Option<Reply>, Refusal>
-    ensures errors { IfErr result (λ e. e ≡ Refusal.NoMemory) }
-{
-    let Act::Step { client } = act else {
-        attempt(world, *act)?;
-        return Ok(None);
-    };
-    match world.step(*client) {
-        Ok(answer) => Ok(answer),
-        Err(Refusal::NoMemory) => Err(Refusal::NoMemory),
-        Err(_) => Ok(None),
-    }
-}
-
 /// The words of a world that differ.
-fn differing(alloc: Global, world: &World) -> Result<Vec<Differs>, Refusal>
+fn differing(alloc: Global, stage: &Stage) -> Result<Vec<Differs>, Refusal>
     ensures errors { IfErr result (λ e. e ≡ Refusal.NoMemory) }
 {
-    let memory = world.memory();
+    let memory = stage.memory();
     let mut differs = Vec::new(alloc);
     for change in memory.changes() {
         let word = change.0 as usize;
@@ -69,51 +54,42 @@ fn differing(alloc: Global, world: &World) -> Result<Vec<Differs>, Refusal>
 /// Makes an act, and adds its frame.
 fn add_frame(
     alloc: Global,
-    world: &mut World,
+    stage: &mut Stage,
     act: &Act,
     frames: &mut Vec<Frame>,
 ) -> Result<(), Refusal>
     ensures errors { IfErr result (λ e. e ≡ Refusal.NoMemory) }
 {
-    let reply = make(world, act)?;
-    let differs = differing(alloc, world)?;
+    let made = stage.attempt(*act)?;
+    let differs = differing(alloc, stage)?;
     let frame = Frame {
         act: *act,
-        reply,
+        made,
         differs,
     };
     frames.push(frame).map_err(|_| Refusal::NoMemory)
 }
 
 /// The frames of acts on a world.
-fn frames_in(alloc: Global, world: &mut World, acts: &[Act]) -> Result<Vec<Frame>, Refusal>
+fn frames_in(alloc: Global, stage: &mut Stage, acts: &[Act]) -> Result<Vec<Frame>, Refusal>
     ensures errors { IfErr result (λ e. e ≡ Refusal.NoMemory) }
 {
     let mut frames = Vec::new(alloc);
     for act in acts {
-        add_frame(alloc, world, act, &mut frames)?;
+        add_frame(alloc, stage, act, &mut frames)?;
     }
     Ok(frames)
 }
 
-/// The frames of acts on a new world.
-fn frames_on(alloc: Global, layout: Layout, acts: &[Act]) -> Result<Vec<Frame>, Refusal>
-    ensures errors { IfErr result (λ e. e ≡ Refusal.NoMemory) }
-{
-    let mut world = World::make(alloc, layout)?;
-    frames_in(alloc, &mut world, acts)
-}
-
-/// The frames of a script's acts.
+/// The frames of a script's acts, on a new world of this layout.
 pub(crate) fn frames(
     alloc: Global,
-    queue: QueueLine,
+    layout: Layout,
     commands: &[Command],
 ) -> Result<Vec<Frame>, Refusal>
-    requires { IsServedQueue queue }
     ensures errors { IfErr result (λ e. e ≡ Refusal.NoMemory) }
 {
-    let layout = queue.layout()?;
     let acts = accepted_acts(alloc, layout, commands)?;
-    frames_on(alloc, layout, &acts)
+    let mut stage = Stage::make(alloc, layout)?;
+    frames_in(alloc, &mut stage, &acts)
 }

@@ -1,138 +1,81 @@
-//! A report as a page: one HTML file with a picture, a column for each point.
+//! A report as a page: a column for each point.
 
 ghost use Rattle.std.specs.Prelude.{◌≡◌, IfErr};
+ghost use Rattle.grammar.specs.Grammar.{IsServedQueue};
 
-use explore::{Evictions, Point, Report, Wanted, evicted_count};
-use grammar::QueueLine;
-use interleave::Act;
+use crate::drawing::{
+    Head, MIDDLE, Rows, Sheet, TEXT_GAP, begin_body, begin_columns, begin_head, begin_page, column,
+    end_page, head_height, upright_height, write_head, write_label, write_rule, write_upright,
+};
+use crate::frames::{Differs, Frame, frames};
+use arena::Layout;
+use explore::{Evictions, Point, Report, Wanted, words_kept};
+use grammar::{Command, QueueLine};
 use std::alloc::{AllocError, Global};
-use std::fmt::{self, Write};
-use words::{Call, Kind, Outcome, Refusal, Told, Value};
+use std::fmt::Write;
+use words::{Kind, Outcome, Refusal, Row, Told, Value};
 
-/// What the page says of itself, and how it is drawn: each kind of answer has a colour, in light and in dark.
-const HEAD: &str = "<!DOCTYPE html>
-<html lang=\"en\">
-<head>
-<meta charset=\"utf-8\">
-<title>A crash at every point</title>
-<style>
-:root { --paper: #fdfdfb; --ink: #22262b; --faint: #646b74; --line: #e4e4de; --bar: #4a7ab5;
-  --none: #ecece6; --left: #f3cf8e; --done: #a9d8b0; --bad: #d64541 }
-@media (prefers-color-scheme: dark) { :root { --paper: #16191d; --ink: #e8e8e3; --faint: #a2a8b0; --line: #2b3036;
-  --bar: #6f9fd8; --none: #262b31; --left: #7a5a1c; --done: #2e6a3c; --bad: #ff6b66 } }
-body { background: var(--paper); color: var(--ink); font: 15px/1.5 system-ui, sans-serif; margin: 2em }
-h1 { font-size: 1.4em; margin: 0 0 .2em }
-p { margin: 0 0 1em; color: var(--faint) }
-figure { margin: 0; overflow-x: auto }
-svg text { fill: var(--ink); font: 11px ui-monospace, monospace }
-svg .label { font: 12px system-ui, sans-serif; fill: var(--faint) }
-svg .number { text-anchor: middle; font-size: 10px }
-svg .faint { fill: var(--faint) }
-svg .rule { stroke: var(--line) }
-svg .bar { fill: var(--bar) }
-.none { fill: var(--none); background: var(--none) }
-.left { fill: var(--left); background: var(--left) }
-.done, .ok { fill: var(--done); background: var(--done) }
-.bad { fill: var(--bad); background: var(--bad) }
-.key span { color: var(--ink); padding: .1em .6em; margin-right: .6em; border-radius: 4px }
-</style>
-</head>
-<body>
-<h1>A crash at every point</h1>
+/// What the page shows.
+const LEGEND: &str = "<p class=\"key\"><span class=\"none\">no call announced</span>
+<span class=\"open\">took no effect</span>
+<span class=\"done\">took effect</span>
+<span class=\"lost\">not kept: cached value above, kept value below</span></p>
+<p>Each column is a crash: how many acts came before it, and what the last one did. Below: how many words the environment
+kept just before it, the steps of recovery, what each client is told, what the queue holds, and a line that is green
+where that is ok. Then each word that was not kept, by its number and its name: the crash took its cached value.</p>
 ";
 
-/// What the colours mean.
-const FOOT: &str = "</svg></figure>
-<p class=\"key\"><span class=\"none\">no call announced</span><span class=\"left\">took no effect</span>
-<span class=\"done\">took effect</span> Each column is a crash: the act that it came after, the words that were kept
-just before it, the steps of recovery, what each client is told then, and what the queue holds.</p>
-</body>
-</html>
-";
-
-/// How wide the labels are, and a column, and where its middle is.
-const LABELS_WIDTH: u64 = 120;
-
-const COLUMN_WIDTH: u64 = 24;
-
-const MIDDLE: u64 = 12;
-
-/// How far down the number of a column ends.
-const NUMBER_END: u64 = 18;
-
-/// How high the next parts are: the act, at least, the evictions, the steps of recovery, and for each client what it is
-/// told, at least.
-const ACT_HEIGHT: u64 = 132;
-
-const EVICTIONS_HEIGHT: u64 = 22;
+/// How high the first parts are: the evictions, and the steps of recovery.
+const EVICTIONS_HEIGHT: u64 = 26;
 
 const STEPS_HEIGHT: u64 = 118;
-
-const CLIENT_HEIGHT: u64 = 100;
 
 /// The most that a bar is high.
 const BAR_HEIGHT: u64 = 90;
 
-/// How wide a character is.
-const CHARACTER_WIDTH: u64 = 7;
+/// The least characters that there is room for of what a client is told, of a content and of a name, and the most that
+/// are shown of the first two.
+const LEAST_TOLD: usize = 8;
 
-/// How far above the end of its part an upright text begins, and a number stands.
-const TEXT_GAP: u64 = 8;
+const LEAST_CONTENT: usize = 8;
 
-const NUMBER_GAP: u64 = 7;
+const LEAST_NAME: usize = 18;
 
-/// How far above the end of the picture the contents begin; below them is the colour of the point.
+const MOST_OF_TOLD: usize = 20;
+
+const MOST_OF_CONTENT: usize = 32;
+
+/// How far above the end of its part a content begins; below it is the colour of the point.
 const CONTENT_GAP: u64 = 12;
 
-/// An act as the page spells it.
-#[derive(Drop)]
-pub(crate) struct Spelt(pub(crate) Act);
-
-impl fmt::Display for Spelt {
-    fn fmt<W: fmt::Write>(&self, f: &mut fmt::Formatter<W>) -> fmt::Result {
-        match self.0 {
-            Act::Start {
-                client,
-                number,
-                call,
-            } => {
-                write!(f, "start {}", client.0)?;
-                if number > 0 {
-                    write!(f, " #{number}")?;
-                }
-                match call {
-                    Call::Enq(value) => write!(f, " enq {value}"),
-                    Call::Deq => write!(f, " deq"),
-                }
-            }
-            Act::Step { client } => write!(f, "step {}", client.0),
-            Act::Evict { at } => write!(f, "evict {at}"),
-            Act::Crash => write!(f, "crash"),
-            Act::Recover => write!(f, "recover"),
-        }
-    }
+/// What the points are of.
+#[derive(Clone, Copy)]
+struct Setting<'a> {
+    queue: QueueLine,
+    wanted: Wanted,
+    layout: &'a Layout,
+    /// What each act of the script does.
+    frames: &'a [Frame],
 }
 
-/// What a page shows beside the report.
+/// A point as the page shows it.
 #[derive(Drop)]
-pub struct Setting {
-    pub queue: QueueLine,
-    pub acts: Vec<Act>,
-    pub wanted: Wanted,
-    /// How many words the memory has.
-    pub words: usize,
+struct Crash<'a> {
+    point: &'a Point,
+    /// How many acts came before it, and the last of them.
+    number: u64,
+    after: Option<&'a Frame>,
+    /// How many words the environment kept just before it, and the words that were not kept.
+    evicted: usize,
+    lost: Vec<Differs>,
 }
 
-/// How large the parts of a picture are.
+/// How far down the parts of a picture end, and how high bars are.
 #[derive(Clone, Copy)]
 struct Sizes {
     clients: usize,
     /// The most steps that a recovery had, or 1.
     most_steps: u64,
-    /// How far down the acts end, the evictions, and the steps of recovery.
-    acts: u64,
-    evictions: u64,
-    steps: u64,
     /// How high what a client is told is.
     told: u64,
     /// How far down the contents begin, and end.
@@ -140,16 +83,29 @@ struct Sizes {
     end: u64,
 }
 
+/// How far down the evictions end, and the steps of recovery.
+const EVICTIONS_END: u64 = 1 + EVICTIONS_HEIGHT;
+
+const STEPS_END: u64 = EVICTIONS_END + STEPS_HEIGHT;
+
+/// What is drawn.
+#[derive(Clone, Copy)]
+struct Picture<'a> {
+    crashes: &'a [Crash<'a>],
+    rows: Rows<'a>,
+    sizes: Sizes,
+    sheet: Sheet,
+}
+
 /// The colour of what a client is told.
 fn colour(told: Told) -> &'static str {
     match told {
-        Told::None => "none",
+        Told::None | Told::Row(Row::NoCall) => "none",
         Told::Verdict(verdict) => match verdict.outcome {
-            Outcome::NotTaken => "left",
+            Outcome::NotTaken => "open",
             Outcome::Taken(_) => "done",
         },
-        Told::Row(words::Row::NoCall) => "none",
-        Told::Row(words::Row::Open) => "left",
+        Told::Row(Row::Open) => "open",
         Told::Row(_) => "done",
     }
 }
@@ -166,21 +122,74 @@ fn values(alloc: Global, content: &[Value]) -> Result<String, AllocError> {
     Ok(text)
 }
 
-/// How high a part is that holds upright texts, the longest of which has so many characters.
-fn height_of(longest: u64, least: u64) -> u64 {
-    longest
-        .saturating_mul(CHARACTER_WIDTH)
-        .saturating_add(2 * TEXT_GAP)
-        .max(least)
+/// Those of these words that are not kept before the crash.
+fn lost_of(
+    alloc: Global,
+    frame: Option<&Frame>,
+    evicted: &[usize],
+) -> Result<Vec<Differs>, AllocError> {
+    let mut lost = Vec::new(alloc);
+    let Some(frame) = frame else {
+        return Ok(lost);
+    };
+    for differs in &frame.differs {
+        if evicted.binary_search(&(differs.word as usize)).is_err() {
+            lost.push(*differs)?;
+        }
+    }
+    Ok(lost)
 }
 
-/// How high the part of the acts is.
-fn acts_height(alloc: Global, acts: &[Act]) -> Result<u64, AllocError> {
-    let mut longest = 0usize;
-    for act in acts {
-        longest = longest.max(format!(in alloc; "{}", Spelt(*act))?.len());
+/// A point of a report after so many acts.
+fn crash_at<'a>(
+    alloc: Global,
+    setting: &Setting<'a>,
+    number: u64,
+    point: &'a Point,
+) -> Result<Crash<'a>, Refusal>
+    ensures errors { IfErr result (λ e. e ≡ Refusal.NoMemory) }
+{
+    let after = setting.frames.get((number as usize).wrapping_sub(1));
+    let words = setting.layout.size();
+    let evicted = words_kept(alloc, setting.wanted.evictions, words, number)?;
+    let lost = lost_of(alloc, after, &evicted).map_err(|_| Refusal::NoMemory)?;
+    Ok(Crash {
+        point,
+        number,
+        after,
+        evicted: evicted.len(),
+        lost,
+    })
+}
+
+/// The points of a report.
+fn crashes_of<'a>(
+    alloc: Global,
+    setting: &Setting<'a>,
+    report: &'a Report,
+) -> Result<Vec<Crash<'a>>, Refusal>
+    ensures errors { IfErr result (λ e. e ≡ Refusal.NoMemory) }
+{
+    let mut crashes = Vec::new(alloc);
+    for (place, point) in report.points.iter().enumerate() {
+        let number = setting.wanted.part.from.saturating_add(place as u64);
+        let crash = crash_at(alloc, setting, number, point)?;
+        crashes.push(crash).map_err(|_| Refusal::NoMemory)?;
     }
-    Ok(height_of(longest as u64, ACT_HEIGHT))
+    Ok(crashes)
+}
+
+/// The words that are ever lost, ascending.
+fn lost_words(alloc: Global, crashes: &[Crash<'_>]) -> Result<Vec<u64>, AllocError> {
+    let mut words = Vec::new(alloc);
+    for crash in crashes {
+        for differs in &crash.lost {
+            words.push(differs.word)?;
+        }
+    }
+    words.sort()?;
+    words.dedup();
+    Ok(words)
 }
 
 /// What the clients of a queue are told.
@@ -189,60 +198,44 @@ fn tellings(point: &Point, clients: usize) -> &[Told] {
 }
 
 /// The length of the longest of these tellings.
-fn longest_of(alloc: Global, told: &[Told]) -> Result<u64, AllocError> {
+fn longest_of(alloc: Global, told: &[Told]) -> Result<usize, AllocError> {
     let mut longest = 0usize;
     for told in told {
         longest = longest.max(format!(in alloc; "{told}")?.len());
     }
-    Ok(longest as u64)
+    Ok(longest)
 }
 
-/// How large the picture of a report is.
-fn sizes_of(alloc: Global, setting: &Setting, points: &[Point]) -> Result<Sizes, AllocError> {
-    let clients = setting.queue.clients as usize;
+/// How large the parts of a picture are.
+fn sizes_of(alloc: Global, clients: usize, crashes: &[Crash<'_>]) -> Result<Sizes, AllocError> {
     let mut most_steps = 1;
-    let mut longest_told = 0;
-    let mut longest = 8u64;
-    for point in points {
+    let mut longest_told = LEAST_TOLD;
+    let mut longest = LEAST_CONTENT;
+    for crash in crashes {
+        let point = crash.point;
         most_steps = most_steps.max(point.steps);
         longest_told = longest_told.max(longest_of(alloc, tellings(point, clients))?);
-        longest = longest.max(values(alloc, &point.content)?.len() as u64);
+        longest = longest.max(values(alloc, &point.content)?.len());
     }
-    let acts = acts_height(alloc, &setting.acts)?.saturating_add(NUMBER_END);
-    let evictions = acts.saturating_add(EVICTIONS_HEIGHT);
-    let steps = evictions.saturating_add(STEPS_HEIGHT);
-    let told = height_of(longest_told, CLIENT_HEIGHT);
-    let contents = steps.saturating_add(told.saturating_mul(clients as u64));
+    let told = upright_height(longest_told, MOST_OF_TOLD);
+    let contents = STEPS_END.saturating_add(told.saturating_mul(clients as u64));
+    let content = upright_height(longest, MOST_OF_CONTENT).saturating_add(CONTENT_GAP);
     Ok(Sizes {
         clients,
         most_steps,
-        acts,
-        evictions,
-        steps,
         told,
         contents,
-        end: contents
-            .saturating_add(longest.saturating_mul(CHARACTER_WIDTH))
-            .saturating_add(TEXT_GAP + CONTENT_GAP),
+        end: contents.saturating_add(content),
     })
 }
 
-/// A text that is read from below, in the part that ends here.
-fn upright(text: &mut String, end: u64, what: &str) -> Result<(), AllocError> {
-    writeln!(
-        text,
-        "<text transform=\"translate(16,{}) rotate(-90)\">{what}</text>",
-        end.saturating_sub(TEXT_GAP)
-    )
-}
-
 /// The steps of a point's recovery, as a bar with their number above it.
-fn bar(text: &mut String, sizes: Sizes, steps: u64) -> Result<(), AllocError> {
+fn write_bar(text: &mut String, sizes: Sizes, steps: u64) -> Result<(), AllocError> {
     let height = steps.saturating_mul(BAR_HEIGHT) / sizes.most_steps.max(1);
-    let top = sizes.steps.saturating_sub(TEXT_GAP).saturating_sub(height);
+    let top = STEPS_END.saturating_sub(TEXT_GAP).saturating_sub(height);
     writeln!(
         text,
-        "<rect class=\"bar\" x=\"4\" y=\"{top}\" width=\"16\" height=\"{height}\"/>"
+        "<rect class=\"bar\" x=\"9\" y=\"{top}\" width=\"16\" height=\"{height}\"/>"
     )?;
     writeln!(
         text,
@@ -252,109 +245,170 @@ fn bar(text: &mut String, sizes: Sizes, steps: u64) -> Result<(), AllocError> {
 }
 
 /// What each client is told, in a box of its colour.
-fn told_boxes(
+fn write_told(
     alloc: Global,
     text: &mut String,
     sizes: Sizes,
     told: &[Told],
 ) -> Result<(), AllocError> {
-    let mut end = sizes.steps;
+    let mut end = STEPS_END;
     for told in told {
         let top = end.saturating_add(2);
         end = end.saturating_add(sizes.told);
         writeln!(
             text,
-            "<rect class=\"{}\" x=\"1\" y=\"{top}\" width=\"22\" height=\"{}\" rx=\"4\"/>",
+            "<rect class=\"{}\" x=\"1\" y=\"{top}\" width=\"32\" height=\"{}\" rx=\"4\"/>",
             colour(*told),
             sizes.told.saturating_sub(4)
         )?;
         let words = format!(in alloc; "{told}")?;
-        upright(text, end, words.as_str())?;
+        write_upright(alloc, text, end, words.as_str(), MOST_OF_TOLD)?;
     }
     Ok(())
 }
 
-/// A column: one point, after this act.
-fn column(
+/// What the queue holds at a point, and below whether that is right.
+fn write_content(
     alloc: Global,
     text: &mut String,
     sizes: Sizes,
     point: &Point,
-    act: &str,
-    evicted: usize,
 ) -> Result<(), AllocError> {
-    upright(text, sizes.acts, act)?;
-    writeln!(
-        text,
-        "<text class=\"number faint\" x=\"{MIDDLE}\" y=\"{}\">{evicted}</text>",
-        sizes.evictions.saturating_sub(NUMBER_GAP)
-    )?;
-    bar(text, sizes, point.steps)?;
-    told_boxes(alloc, text, sizes, tellings(point, sizes.clients))?;
     let content = values(alloc, &point.content)?;
-    upright(
-        text,
-        sizes.end.saturating_sub(CONTENT_GAP),
-        content.as_str(),
-    )?;
-    let ok = if point.ok { "ok" } else { "bad" };
+    let end = sizes.end.saturating_sub(CONTENT_GAP);
+    write_upright(alloc, text, end, content.as_str(), MOST_OF_CONTENT)?;
+    let ok = if point.ok { "done" } else { "bad" };
+    let top = sizes.end.saturating_sub(TEXT_GAP);
     writeln!(
         text,
-        "<rect class=\"{ok}\" x=\"1\" y=\"{}\" width=\"22\" height=\"6\"/>",
-        sizes.end.saturating_sub(TEXT_GAP)
+        "<rect class=\"{ok}\" x=\"1\" y=\"{top}\" width=\"32\" height=\"6\"/>"
     )
 }
 
-/// A label at the left, and a rule above it.
-fn label(
+/// A column: one point.
+fn write_crash(
+    alloc: Global,
     text: &mut String,
-    width: u64,
-    rule: u64,
-    base: u64,
-    what: &str,
+    picture: &Picture<'_>,
+    place: u64,
+    crash: &Crash<'_>,
 ) -> Result<(), AllocError> {
+    let sizes = picture.sizes;
+    let left = column(place);
+    writeln!(text, "<g transform=\"translate({left},0)\">")?;
+    let evicted = crash.evicted;
     writeln!(
         text,
-        "<line class=\"rule\" x1=\"0\" x2=\"{width}\" y1=\"{rule}\" y2=\"{rule}\"/>"
+        "<text class=\"number faint\" x=\"{MIDDLE}\" y=\"18\">{evicted}</text>"
     )?;
-    writeln!(
-        text,
-        "<text class=\"label\" x=\"0\" y=\"{base}\">{what}</text>"
-    )
+    write_bar(text, sizes, crash.point.steps)?;
+    write_told(alloc, text, sizes, tellings(crash.point, sizes.clients))?;
+    write_content(alloc, text, sizes, crash.point)?;
+    writeln!(text, "</g>")?;
+    for differs in &crash.lost {
+        picture.rows.cell(alloc, text, place, *differs, "lost")?;
+    }
+    Ok(())
 }
 
-/// The labels of all parts.
-fn labels(alloc: Global, text: &mut String, sizes: Sizes, width: u64) -> Result<(), AllocError> {
-    let base = sizes.acts.saturating_sub(TEXT_GAP);
-    label(text, width, NUMBER_END, base, "crash after")?;
-    let base = sizes.evictions.saturating_sub(NUMBER_GAP);
-    label(text, width, sizes.acts, base, "words kept")?;
-    let base = sizes.steps.saturating_sub(TEXT_GAP);
-    label(text, width, sizes.evictions, base, "recovery steps")?;
-    let mut from = sizes.steps;
-    for client in 0..sizes.clients {
-        let end = from.saturating_add(sizes.told);
-        let what = format!(in alloc; "client {client} is told")?;
-        label(
-            text,
-            width,
-            from,
-            end.saturating_sub(TEXT_GAP),
-            what.as_str(),
-        )?;
-        from = end;
+/// All columns.
+fn write_crashes(
+    alloc: Global,
+    text: &mut String,
+    picture: &Picture<'_>,
+) -> Result<(), AllocError> {
+    for (place, crash) in picture.crashes.iter().enumerate() {
+        write_crash(alloc, text, picture, place as u64, crash)?;
     }
-    label(
-        text,
-        width,
-        sizes.contents,
-        sizes.end.saturating_sub(CONTENT_GAP),
-        "content",
-    )
+    Ok(())
+}
+
+/// A part of the picture: its name, and how far down it begins.
+#[derive(Drop)]
+struct Part {
+    name: String,
+    top: u64,
+}
+
+/// The parts above the words.
+fn parts_of(alloc: Global, sizes: Sizes) -> Result<Vec<Part>, AllocError> {
+    let mut parts = Vec::new(alloc);
+    let name = String::from_str(alloc, "words kept")?;
+    parts.push(Part { name, top: 1 })?;
+    let name = String::from_str(alloc, "recovery steps")?;
+    let top = EVICTIONS_END;
+    parts.push(Part { name, top })?;
+    let mut top = STEPS_END;
+    for client in 0..sizes.clients {
+        let name = format!(in alloc; "client {client} is told")?;
+        parts.push(Part { name, top })?;
+        top = top.saturating_add(sizes.told);
+    }
+    let name = String::from_str(alloc, "content")?;
+    let top = sizes.contents;
+    parts.push(Part { name, top })?;
+    Ok(parts)
+}
+
+/// The names of the parts and of the words.
+fn write_labels(
+    alloc: Global,
+    text: &mut String,
+    picture: &Picture<'_>,
+    parts: &[Part],
+) -> Result<(), AllocError> {
+    let width = picture.sheet.names;
+    for part in parts {
+        write_label(text, width, part.top, part.name.as_str())?;
+    }
+    picture.rows.labels(alloc, text, width)
+}
+
+/// The rules above the parts and the words.
+fn write_rules(text: &mut String, picture: &Picture<'_>, parts: &[Part]) -> Result<(), AllocError> {
+    let width = picture.sheet.columns;
+    for part in parts {
+        write_rule(text, width, part.top)?;
+    }
+    picture.rows.rules(text, width)
+}
+
+/// The heads of all columns, and the name of their row.
+fn write_heads(alloc: Global, text: &mut String, picture: &Picture<'_>) -> Result<(), AllocError> {
+    let sheet = picture.sheet;
+    begin_head(text, sheet, "crash after")?;
+    for (place, crash) in picture.crashes.iter().enumerate() {
+        let head = Head {
+            number: crash.number,
+            frame: crash.after,
+        };
+        let layout = picture.rows.layout;
+        write_head(alloc, text, sheet, layout, place as u64, head)?;
+    }
+    Ok(())
+}
+
+/// The frame with all that is drawn.
+fn write_picture(
+    alloc: Global,
+    text: &mut String,
+    picture: &Picture<'_>,
+) -> Result<(), AllocError> {
+    let parts = parts_of(alloc, picture.sizes)?;
+    write_heads(alloc, text, picture)?;
+    begin_body(text, picture.sheet)?;
+    write_labels(alloc, text, picture, &parts)?;
+    begin_columns(text, picture.sheet, picture.sheet.body)?;
+    write_rules(text, picture, &parts)?;
+    write_crashes(alloc, text, picture)
 }
 
 /// What the page says before its picture.
-fn heading(text: &mut String, setting: &Setting, report: &Report) -> Result<(), AllocError> {
+fn write_heading(
+    text: &mut String,
+    setting: &Setting<'_>,
+    report: &Report,
+) -> Result<(), AllocError> {
     let queue = setting.queue;
     let kind = match queue.kind {
         Kind::Durable => "durable",
@@ -370,76 +424,81 @@ fn heading(text: &mut String, setting: &Setting, report: &Report) -> Result<(), 
         Evictions::All => write!(text, "every word kept before a crash")?,
         Evictions::Drawn { state } => write!(text, "words drawn from {state} kept before a crash")?,
     }
-    writeln!(
-        text,
-        "; points {} bad {}</p>",
-        report.points.len(),
-        report.bad
-    )
+    let points = report.points.len();
+    writeln!(text, "; points {points} bad {}</p>\n{LEGEND}", report.bad)
 }
 
-/// The act that the crash at a point came after.
-fn act_before(alloc: Global, acts: &[Act], number: u64) -> Result<String, AllocError> {
-    match acts.get((number as usize).wrapping_sub(1)) {
-        Some(act) => format!(in alloc; "{}", Spelt(*act)),
-        None => String::from_str(alloc, "at first"),
-    }
-}
-
-/// All columns.
-fn columns(
+/// What is drawn of crashes.
+fn picture_of<'a>(
     alloc: Global,
-    text: &mut String,
-    sizes: Sizes,
-    setting: &Setting,
-    report: &Report,
-) -> Result<(), AllocError> {
-    let mut left = LABELS_WIDTH;
-    for (place, point) in report.points.iter().enumerate() {
-        let number = setting.wanted.part.from.saturating_add(place as u64);
-        writeln!(text, "<g transform=\"translate({left},0)\">")?;
-        writeln!(
-            text,
-            "<text class=\"number\" x=\"{MIDDLE}\" y=\"12\">{number}</text>"
-        )?;
-        let act = act_before(alloc, &setting.acts, number)?;
-        let evicted = evicted_count(setting.wanted.evictions, setting.words, number);
-        column(alloc, text, sizes, point, act.as_str(), evicted)?;
-        writeln!(text, "</g>")?;
-        left = left.saturating_add(COLUMN_WIDTH);
-    }
-    Ok(())
+    clients: usize,
+    rows: Rows<'a>,
+    crashes: &'a [Crash<'a>],
+    frames: &[Frame],
+) -> Result<Picture<'a>, AllocError> {
+    let sizes = sizes_of(alloc, clients, crashes)?;
+    let rows = Rows {
+        top: sizes.end,
+        ..rows
+    };
+    let sheet = Sheet {
+        names: rows.width(alloc, LEAST_NAME)?,
+        columns: column(crashes.len() as u64),
+        head: head_height(alloc, rows.layout, frames)?,
+        body: rows.end().saturating_add(2),
+    };
+    Ok(Picture {
+        crashes,
+        rows,
+        sizes,
+        sheet,
+    })
 }
 
-/// Writes the whole page.
+/// The whole page.
 fn write_page(
     alloc: Global,
     text: &mut String,
-    setting: &Setting,
+    setting: &Setting<'_>,
     report: &Report,
+    crashes: &[Crash<'_>],
 ) -> Result<(), AllocError> {
-    let sizes = sizes_of(alloc, setting, &report.points)?;
-    let width = COLUMN_WIDTH
-        .saturating_mul(report.points.len() as u64)
-        .saturating_add(LABELS_WIDTH);
-    write!(text, "{HEAD}")?;
-    heading(text, setting, report)?;
-    writeln!(
-        text,
-        "<figure><svg width=\"{width}\" height=\"{}\" viewBox=\"0 0 {width} {}\" role=\"img\">",
-        sizes.end, sizes.end
-    )?;
-    labels(alloc, text, sizes, width)?;
-    columns(alloc, text, sizes, setting, report)?;
-    write!(text, "{FOOT}")
+    let words = lost_words(alloc, crashes)?;
+    let rows = Rows {
+        layout: setting.layout,
+        words: &words,
+        top: 0,
+    };
+    let clients = setting.queue.clients as usize;
+    let picture = picture_of(alloc, clients, rows, crashes, setting.frames)?;
+    begin_page(text, "A crash at every point")?;
+    write_heading(text, setting, report)?;
+    write_picture(alloc, text, &picture)?;
+    end_page(text)
 }
 
-/// The page of a report, or NoMemory.
-pub fn page(alloc: Global, setting: &Setting, report: &Report) -> Result<Vec<u8>, Refusal>
+/// The page of a report on the points of a script, or NoMemory.
+pub fn page(
+    alloc: Global,
+    queue: QueueLine,
+    commands: &[Command],
+    wanted: Wanted,
+    report: &Report,
+) -> Result<Vec<u8>, Refusal>
+    requires { IsServedQueue queue }
     ensures errors { IfErr result (λ e. e ≡ Refusal.NoMemory) }
 {
+    let layout = queue.layout()?;
+    let frames = frames(alloc, layout, commands)?;
+    let setting = Setting {
+        queue,
+        wanted,
+        layout: &layout,
+        frames: &frames,
+    };
+    let crashes = crashes_of(alloc, &setting, report)?;
     let mut text = String::new(alloc);
-    match write_page(alloc, &mut text, setting, report) {
+    match write_page(alloc, &mut text, &setting, report, &crashes) {
         Ok(()) => Ok(text.into_bytes()),
         Err(_) => Err(Refusal::NoMemory),
     }

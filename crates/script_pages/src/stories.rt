@@ -1,74 +1,36 @@
 //! A run of a script as a page: its acts in a lane for each client, and below them the words that differ.
 
 ghost use Rattle.std.specs.Prelude.{◌≡◌, IfErr};
+ghost use Rattle.grammar.specs.Grammar.{IsServedQueue};
 
-use crate::frames::{Differs, Frame, frames};
-use crate::pictures::Spelt;
+use crate::drawing::{
+    COLUMN_WIDTH, Head, Rows, Sheet, begin_body, begin_columns, begin_head, begin_page, column,
+    end_page, head_height, write_head, write_label, write_rule,
+};
+use crate::frames::{Frame, frames};
+use crate::texts::Called;
+use arena::Layout;
 use grammar::{QueueLine, Script};
 use interleave::Act;
 use std::alloc::{AllocError, Global};
 use std::fmt::Write;
 use words::{Call, Kind, Refusal};
 
-/// What the page says of itself, and how it is drawn, in light and in dark.
-const HEAD: &str = "<!DOCTYPE html>
-<html lang=\"en\">
-<head>
-<meta charset=\"utf-8\">
-<title>A script, act by act</title>
-<style>
-:root { --paper: #fdfdfb; --ink: #22262b; --faint: #646b74; --line: #e4e4de; --call: #cfe0f3; --done: #a9d8b0;
-  --open: #f3cf8e; --crash: #d64541; --differs: #efe3f6; --lost: #f6d3d1 }
-@media (prefers-color-scheme: dark) { :root { --paper: #16191d; --ink: #e8e8e3; --faint: #a2a8b0; --line: #2b3036;
-  --call: #27405c; --done: #2e6a3c; --open: #7a5a1c; --crash: #ff6b66; --differs: #3d2f4a; --lost: #5c2b29 } }
-body { background: var(--paper); color: var(--ink); font: 15px/1.5 system-ui, sans-serif; margin: 2em }
-h1 { font-size: 1.4em; margin: 0 0 .2em }
-p { margin: 0 0 1em; color: var(--faint) }
-figure { margin: 0 0 1em; overflow: auto; max-height: 88vh }
-.row { display: flex; width: max-content }
-.row svg { flex: none }
-.heads { position: sticky; top: 0; z-index: 2; background: var(--paper) }
-.names { position: sticky; left: 0; z-index: 1; background: var(--paper) }
-svg text { fill: var(--ink); font: 11px ui-monospace, monospace }
-svg .label { font: 12px system-ui, sans-serif; fill: var(--faint) }
-svg .small { font-size: 9px; text-anchor: middle }
-svg .faint { fill: var(--faint) }
-svg .rule { stroke: var(--line) }
-svg .crash { stroke: var(--crash); stroke-width: 2 }
-.call { fill: var(--call); background: var(--call) }
-.done { fill: var(--done); background: var(--done) }
-.open { fill: var(--open); background: var(--open) }
-.differs { fill: var(--differs); background: var(--differs) }
-.lost { fill: var(--lost); background: var(--lost) }
-.key span { color: var(--ink); padding: .1em .6em; margin-right: .6em; border-radius: 4px }
-</style>
-</head>
-<body>
-<h1>A script, act by act</h1>
+/// What the page shows.
+const LEGEND: &str = "<p class=\"key\"><span class=\"done\">answered</span>
+<span class=\"open\">interrupted, or still open</span>
+<span class=\"differs\">cached value above, kept value below</span>
+<span class=\"lost\">cached value that a crash took</span></p>
+<p>Each column is an act: whose it is, by the client's number, and what it did to which word. A client has a lane, and
+its calls are bars in it. A crash is a line across. Below stands each word that ever differs, by its number and its
+name, where its two values are not the same.</p>
 ";
 
-/// What the colours mean.
-const FOOT: &str = "</svg></div></figure>
-<p class=\"key\"><span class=\"done\">answered</span><span class=\"open\">interrupted, or still open</span>
-<span class=\"differs\">cached value above, kept value below</span><span class=\"lost\">cached value that a crash took
-away</span> Each column is an act. A crash is a line across. A word is shown where its two values differ.</p>
-</body>
-</html>
-";
-
-/// How wide the labels are, a column, and a character of an act's name; how far down the lanes begin; how
-/// high a lane and a word are.
-const LABELS_WIDTH: u64 = 90;
-
-const COLUMN_WIDTH: u64 = 34;
-
-const CHARACTER_WIDTH: u64 = 7;
-
-const LANES_TOP: u64 = 1;
-
+/// How high a lane is.
 const LANE_HEIGHT: u64 = 34;
 
-const WORD_HEIGHT: u64 = 26;
+/// The least characters that names have room for.
+const LEAST_NAME: usize = 12;
 
 /// A call of a client on the page: from its act up to that with which it ended.
 #[derive(Drop)]
@@ -80,18 +42,12 @@ struct Bar {
     answer: Option<String>,
 }
 
-/// Where the column of an act begins.
-fn column(act: u64) -> u64 {
-    act.saturating_mul(COLUMN_WIDTH)
-        .saturating_add(LABELS_WIDTH)
-}
-
 /// The end of a call that began at an act: the act, and whether it is an answer.
 fn end_of(frames: &[Frame], from: usize, client: u8) -> (usize, bool) {
     for number in from..frames.len() {
         match frames[number].act {
             Act::Step { client: other } => {
-                if other.0 == client && frames[number].reply.is_some() {
+                if other.0 == client && frames[number].made.reply.is_some() {
                     return (number, true);
                 }
             }
@@ -113,7 +69,7 @@ fn bar_of(alloc: Global, frames: &[Frame], from: usize) -> Result<Option<Bar>, A
     let (to, is_answer) = end_of(frames, from, client.0);
     let mut answer = None;
     if let Some(frame) = frames.get(to) {
-        if let Some(reply) = frame.reply {
+        if let Some(reply) = frame.made.reply {
             if is_answer {
                 answer = Some(format!(in alloc; "{reply}")?);
             }
@@ -138,76 +94,27 @@ fn write_bar(text: &mut String, bar: &Bar) -> Result<(), AllocError> {
         right = right.saturating_add(COLUMN_WIDTH).saturating_sub(1);
         class = "done";
     }
+    let width = right.saturating_sub(left);
     writeln!(
         text,
-        "<rect class=\"{class}\" x=\"{left}\" y=\"{top}\" width=\"{}\" height=\"24\" rx=\"4\"/>",
-        right.saturating_sub(left)
+        "<rect class=\"{class}\" x=\"{left}\" y=\"{top}\" width=\"{width}\" height=\"24\" rx=\"4\"/>"
     )?;
-    write!(
-        text,
-        "<text x=\"{}\" y=\"{}\">",
-        left.saturating_add(4),
-        top.saturating_add(16)
-    )?;
-    match bar.call {
-        Call::Enq(value) => write!(text, "enq {value}")?,
-        Call::Deq => write!(text, "deq")?,
-    }
+    let called = Called(bar.call);
+    let left = left.saturating_add(4);
+    let base = top.saturating_add(16);
+    write!(text, "<text x=\"{left}\" y=\"{base}\">{called}")?;
     if let Some(answer) = &bar.answer {
         write!(text, ": {answer}")?;
     }
     writeln!(text, "</text>")
 }
 
-/// The name of an act, read from below, above its column, in a head that is so high.
-fn write_name(text: &mut String, number: u64, act: Act, high: u64) -> Result<(), AllocError> {
-    let spelt = Spelt(act);
-    writeln!(
-        text,
-        "<text class=\"faint\" transform=\"translate({},{}) rotate(-90)\">{spelt}</text>",
-        column(number).saturating_add(21),
-        high.saturating_sub(8)
-    )
-}
-
-/// How high the head is that holds the names of all acts.
-fn head_of(alloc: Global, frames: &[Frame]) -> Result<u64, AllocError> {
-    let mut longest = 0usize;
-    for frame in frames {
-        longest = longest.max(format!(in alloc; "{}", Spelt(frame.act))?.len());
-    }
-    Ok(
-        (longest as u64)
-            .saturating_mul(CHARACTER_WIDTH)
-            .saturating_add(16),
-    )
-}
-
 /// A line across where everything stopped.
-fn write_crash(text: &mut String, number: u64, end: u64) -> Result<(), AllocError> {
-    let x = column(number);
+fn write_crash(text: &mut String, place: u64, end: u64) -> Result<(), AllocError> {
+    let x = column(place);
     writeln!(
         text,
-        "<line class=\"crash\" x1=\"{x}\" x2=\"{x}\" y1=\"{}\" y2=\"{end}\"/>",
-        LANES_TOP
-    )
-}
-
-/// A rule from one place across to another.
-fn write_rule(text: &mut String, from: u64, to: u64, top: u64) -> Result<(), AllocError> {
-    writeln!(
-        text,
-        "<line class=\"rule\" x1=\"{from}\" x2=\"{to}\" y1=\"{top}\" y2=\"{top}\"/>"
-    )
-}
-
-/// A label at the left, and a rule above it.
-fn write_label(text: &mut String, top: u64, what: &str) -> Result<(), AllocError> {
-    write_rule(text, 0, LABELS_WIDTH, top)?;
-    writeln!(
-        text,
-        "<text class=\"label\" x=\"0\" y=\"{}\">{what}</text>",
-        top.saturating_add(18)
+        "<line class=\"crash\" x1=\"{x}\" x2=\"{x}\" y2=\"{end}\"/>"
     )
 }
 
@@ -224,69 +131,13 @@ fn words_of(alloc: Global, frames: &[Frame]) -> Result<Vec<u64>, AllocError> {
     Ok(words)
 }
 
-/// How far down the row of a word begins.
-fn row_of(words: &[u64], clients: u64, word: u64) -> u64 {
-    let row = match words.binary_search(&word) {
-        Ok(row) => row as u64,
-        Err(row) => row as u64,
-    };
-    lane_of(clients).saturating_add(row.saturating_mul(WORD_HEIGHT))
-}
-
-/// A value, or the last digits of one that is too long for its column.
-fn brief(alloc: Global, value: u64) -> Result<String, AllocError> {
-    if value < 1_000_000 {
-        return format!(in alloc; "{value}");
-    }
-    let last = value % 10_000;
-    format!(in alloc; "…{last:04}")
-}
-
-/// A word at an act: its cached value, and its kept one below.
-fn write_word(
-    alloc: Global,
-    text: &mut String,
-    number: u64,
-    top: u64,
-    differs: Differs,
-    class: &str,
-) -> Result<(), AllocError> {
-    let left = column(number);
-    let middle = left.saturating_add(COLUMN_WIDTH / 2);
-    let word = differs.word;
-    let cached = differs.cached;
-    let kept = differs.kept;
-    writeln!(
-        text,
-        "<g><title>word {word}: cached {cached}, kept {kept}</title>"
-    )?;
-    let cached = brief(alloc, cached)?;
-    let kept = brief(alloc, kept)?;
-    writeln!(
-        text,
-        "<rect class=\"{class}\" x=\"{left}\" y=\"{}\" width=\"{COLUMN_WIDTH}\" height=\"24\"/>",
-        top.saturating_add(1)
-    )?;
-    writeln!(
-        text,
-        "<text class=\"small\" x=\"{middle}\" y=\"{}\">{cached}</text>",
-        top.saturating_add(11)
-    )?;
-    writeln!(
-        text,
-        "<text class=\"small faint\" x=\"{middle}\" y=\"{}\">{kept}</text></g>",
-        top.saturating_add(22)
-    )
-}
-
-/// What is drawn: the frames, the words, how many clients there are, and how far right and down the picture ends.
+/// What is drawn: the frames, the rows of the words, how many clients there are, and how large all is.
 #[derive(Clone, Copy)]
 struct Picture<'a> {
     frames: &'a [Frame],
-    words: &'a [u64],
+    rows: Rows<'a>,
     clients: u64,
-    width: u64,
-    end: u64,
+    sheet: Sheet,
 }
 
 /// The words that differ after an act; at a crash those that differed before it, which it took away.
@@ -294,104 +145,90 @@ fn write_words(
     alloc: Global,
     text: &mut String,
     picture: &Picture<'_>,
-    number: usize,
+    place: usize,
 ) -> Result<(), AllocError> {
-    let Some(frame) = picture.frames.get(number) else {
+    let Some(frame) = picture.frames.get(place) else {
         return Ok(());
     };
     let mut shown = frame;
     let mut class = "differs";
     if frame.act == Act::Crash {
         class = "lost";
-        if let Some(before) = picture.frames.get(number.saturating_sub(1)) {
+        if let Some(before) = picture.frames.get(place.saturating_sub(1)) {
             shown = before;
         }
     }
     for differs in &shown.differs {
-        let top = row_of(picture.words, picture.clients, differs.word);
-        write_word(alloc, text, number as u64, top, *differs, class)?;
+        picture
+            .rows
+            .cell(alloc, text, place as u64, *differs, class)?;
     }
     Ok(())
 }
 
 /// Where the lane of a client begins.
 fn lane_of(client: u64) -> u64 {
-    client.saturating_mul(LANE_HEIGHT).saturating_add(LANES_TOP)
+    client.saturating_mul(LANE_HEIGHT).saturating_add(1)
 }
 
 /// The labels of lanes and of words.
 fn write_labels(alloc: Global, text: &mut String, picture: &Picture<'_>) -> Result<(), AllocError> {
+    let width = picture.sheet.names;
     for client in 0..picture.clients {
         let what = format!(in alloc; "client {client}")?;
-        write_label(text, lane_of(client), what.as_str())?;
+        write_label(text, width, lane_of(client), what.as_str())?;
     }
-    for word in picture.words {
-        let what = format!(in alloc; "word {word}")?;
-        let top = row_of(picture.words, picture.clients, *word);
-        write_label(text, top, what.as_str())?;
-    }
-    Ok(())
+    picture.rows.labels(alloc, text, width)
 }
 
 /// The rules above lanes and words.
 fn write_rules(text: &mut String, picture: &Picture<'_>) -> Result<(), AllocError> {
+    let width = picture.sheet.columns;
     for client in 0..picture.clients {
-        write_rule(text, LABELS_WIDTH, picture.width, lane_of(client))?;
+        write_rule(text, width, lane_of(client))?;
     }
-    for word in picture.words {
-        let top = row_of(picture.words, picture.clients, *word);
-        write_rule(text, LABELS_WIDTH, picture.width, top)?;
-    }
-    Ok(())
+    picture.rows.rules(text, width)
 }
 
 /// All acts.
 fn write_acts(alloc: Global, text: &mut String, picture: &Picture<'_>) -> Result<(), AllocError> {
-    for number in 0..picture.frames.len() {
-        write_words(alloc, text, picture, number)?;
-        if let Some(bar) = bar_of(alloc, picture.frames, number)? {
+    for place in 0..picture.frames.len() {
+        write_words(alloc, text, picture, place)?;
+        if let Some(bar) = bar_of(alloc, picture.frames, place)? {
             write_bar(text, &bar)?;
         }
-        if picture.frames[number].act == Act::Crash {
-            write_crash(text, number as u64, picture.end)?;
+        if picture.frames[place].act == Act::Crash {
+            write_crash(text, place as u64, picture.sheet.body)?;
         }
     }
     Ok(())
 }
 
-/// The names of the acts, which stay where they are while the rest is scrolled down.
-fn write_head(alloc: Global, text: &mut String, picture: &Picture<'_>) -> Result<(), AllocError> {
-    let wide = picture.width.saturating_sub(LABELS_WIDTH);
-    let high = head_of(alloc, picture.frames)?;
-    writeln!(
-        text,
-        "<figure><div class=\"row heads\"><svg class=\"names\" width=\"{LABELS_WIDTH}\" height=\"{high}\"></svg>"
-    )?;
-    writeln!(
-        text,
-        "<svg width=\"{wide}\" height=\"{high}\" viewBox=\"{LABELS_WIDTH} 0 {wide} {high}\">"
-    )?;
-    for number in 0..picture.frames.len() {
-        write_name(text, number as u64, picture.frames[number].act, high)?;
+/// The heads of all columns.
+fn write_heads(alloc: Global, text: &mut String, picture: &Picture<'_>) -> Result<(), AllocError> {
+    let sheet = picture.sheet;
+    begin_head(text, sheet, "act")?;
+    for (place, frame) in picture.frames.iter().enumerate() {
+        let head = Head {
+            number: (place as u64).saturating_add(1),
+            frame: Some(frame),
+        };
+        let layout = picture.rows.layout;
+        write_head(alloc, text, sheet, layout, place as u64, head)?;
     }
-    writeln!(text, "</svg></div>")
+    Ok(())
 }
 
-/// The labels, which stay where they are while the rest is scrolled to the left, and beside them the lanes and words.
-fn write_body(alloc: Global, text: &mut String, picture: &Picture<'_>) -> Result<(), AllocError> {
-    let wide = picture.width.saturating_sub(LABELS_WIDTH);
-    let high = picture.end;
-    writeln!(
-        text,
-        "<div class=\"row\"><svg class=\"names\" width=\"{LABELS_WIDTH}\" height=\"{high}\""
-    )?;
-    writeln!(text, " viewBox=\"0 0 {LABELS_WIDTH} {high}\">")?;
+/// The frame with all that is drawn.
+fn write_picture(
+    alloc: Global,
+    text: &mut String,
+    picture: &Picture<'_>,
+) -> Result<(), AllocError> {
+    write_heads(alloc, text, picture)?;
+    begin_body(text, picture.sheet)?;
     write_labels(alloc, text, picture)?;
-    writeln!(text, "</svg>")?;
-    writeln!(
-        text,
-        "<svg width=\"{wide}\" height=\"{high}\" viewBox=\"{LABELS_WIDTH} 0 {wide} {high}\" role=\"img\">"
-    )?;
+    begin_columns(text, picture.sheet, picture.sheet.body)?;
     write_rules(text, picture)?;
     write_acts(alloc, text, picture)
 }
@@ -401,6 +238,7 @@ fn write_page(
     alloc: Global,
     text: &mut String,
     queue: QueueLine,
+    layout: &Layout,
     frames: &[Frame],
 ) -> Result<(), AllocError> {
     let words = words_of(alloc, frames)?;
@@ -409,36 +247,55 @@ fn write_page(
         Kind::Durable => "durable",
         Kind::Log => "log",
     };
+    let rows = Rows {
+        layout,
+        words: &words,
+        top: lane_of(clients),
+    };
     let count = frames.len();
+    let sheet = Sheet {
+        names: rows.width(alloc, LEAST_NAME)?,
+        columns: column(count as u64).saturating_add(1),
+        head: head_height(alloc, layout, frames)?,
+        body: rows.end().saturating_add(2),
+    };
     let picture = Picture {
         frames,
-        words: &words,
+        rows,
         clients,
-        width: column(count as u64).saturating_add(1),
-        end: row_of(&words, clients, u64::MAX).saturating_add(2),
+        sheet,
     };
-    write!(text, "{HEAD}")?;
+    begin_page(text, "A script, act by act")?;
+    let (clients, records) = (queue.clients, queue.records);
     writeln!(
         text,
-        "<p>queue {kind} {} {}; acts {count}</p>",
-        queue.clients, queue.records
+        "<p>queue {kind} {clients} {records}; acts {count}</p>"
     )?;
-    write_head(alloc, text, &picture)?;
-    write_body(alloc, text, &picture)?;
-    write!(text, "{FOOT}")
+    write!(text, "{LEGEND}")?;
+    write_picture(alloc, text, &picture)?;
+    end_page(text)
+}
+
+/// The page of a queue's script.
+fn story_of(alloc: Global, queue: QueueLine, script: &Script) -> Result<Vec<u8>, Refusal>
+    requires { IsServedQueue queue }
+    ensures errors { IfErr result (λ e. e ≡ Refusal.NoMemory) }
+{
+    let layout = queue.layout()?;
+    let frames = frames(alloc, layout, script.commands())?;
+    let mut text = String::new(alloc);
+    match write_page(alloc, &mut text, queue, &layout, &frames) {
+        Ok(()) => Ok(text.into_bytes()),
+        Err(_) => Err(Refusal::NoMemory),
+    }
 }
 
 /// The page of a script's run, empty where the script has no queue; or NoMemory.
 pub fn story(alloc: Global, script: &Script) -> Result<Vec<u8>, Refusal>
     ensures errors { IfErr result (λ e. e ≡ Refusal.NoMemory) }
 {
-    let Some(queue) = script.queue() else {
-        return Ok(Vec::new(alloc));
-    };
-    let frames = frames(alloc, queue, script.commands())?;
-    let mut text = String::new(alloc);
-    match write_page(alloc, &mut text, queue, &frames) {
-        Ok(()) => Ok(text.into_bytes()),
-        Err(_) => Err(Refusal::NoMemory),
+    match script.queue() {
+        Some(queue) => story_of(alloc, queue, script),
+        None => Ok(Vec::new(alloc)),
     }
 }

@@ -5,10 +5,10 @@ ghost use Rattle.words.specs.declared.limits.TheConstants.{MAX_CLIENTS};
 ghost use Rattle.playing.specs.Prints.{values_text};
 ghost use Rattle.script_reports.specs.Reports.{calls_text, content_text, end_text, steps_text, told_all_text, line_of, points_text, stopped_text, text_of_report, most_steps as most_steps_of};
 
-use attempts::{Alone, accepted_acts, alone};
+use attempts::{Alone, alone};
 use explore::{Point, Report, Wanted, Watch, watched_points};
 use grammar::Script;
-use script_pages::{Setting, page};
+use script_pages::page;
 use std::alloc::Global;
 use std::fmt::Write;
 use std::thread::Threads;
@@ -152,15 +152,7 @@ pub(crate) fn pictured_points<R: Threads + Sync, W: Watch>(
     };
     let report = watched_points(rt, alloc, script, wanted, watch)?;
     let text = report_text(alloc, queue.clients as usize, wanted.part.from, &report)?;
-    // A report has no acts, so they are found once more.
-    let layout = queue.layout()?;
-    let setting = Setting {
-        queue,
-        acts: accepted_acts(alloc, layout, script.commands())?,
-        wanted,
-        words: layout.size(),
-    };
-    let page = page(alloc, &setting, &report)?;
+    let page = page(alloc, queue, script.commands(), wanted, &report)?;
     Ok(Pictured { text, page })
 }
 

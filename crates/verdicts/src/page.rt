@@ -20,7 +20,11 @@ const HEAD: &str = "<!DOCTYPE html>
   --put: #2f5580; --take: #2e6a3c; --open: #262b31; --effect: #e8e8e3; --crash: #ff6b66; --named: #ff6b66 } }
 body { background: var(--paper); color: var(--ink); font: 15px/1.5 system-ui, sans-serif; margin: 2em }
 h1 { font-size: 1.4em; margin: 0 0 .2em }
-p { color: var(--faint) }
+p { color: var(--faint); max-width: 60em }
+.key span { color: var(--ink); padding: .1em .6em; margin-right: .4em; border-radius: 4px }
+.key .put { background: var(--put) }
+.key .take { background: var(--take) }
+.key .open { background: var(--open); border: 1px dashed var(--faint) }
 pre { font: 13px/1.45 ui-monospace, monospace; overflow-x: auto }
 figure { margin: 0; overflow-x: auto; display: flex }
 figure svg { flex: none }
@@ -48,16 +52,24 @@ const TO_THE_LIMIT: &str =
     "<p><a href=\"#limit\">To the line from which on there is no order</a></p>\n";
 
 /// What the marks mean.
+const LEGEND: &str =
+    "<p class=\"key\"><span class=\"put\">put</span><span class=\"take\">take</span><span class=\"open\">no answer</span>
+A lane is a client, a bar a call from its begin to its end, over the lines of the recording. A dot is the moment at
+which the call takes effect in the order. A broken line across is a crash. Where no order is left, a line across shows
+from which line on, and the calls that show it have a thick edge.</p>
+";
+
+/// What comes behind the picture.
 const FOOT: &str = "</svg></figure>
-<p>A lane is a client, a bar a call from its begin to its end, over the lines of the recording. A dot is the moment at
-which the call takes effect in the order. A bar with broken edges has no answer. A broken line across is a crash. Where
-no order is left, a line across shows from which line on, and the calls that show it have a thick edge.</p>
 </body>
 </html>
 ";
 
-/// How wide the names of clients are, and where the first step is drawn; how wide a step, and how high a lane.
+/// How wide the names of clients are at least, and a character of one; where the first step is drawn; how wide a step,
+/// and how high a lane.
 const NAMES: usize = 100;
+
+const CHARACTER: usize = 7;
 
 const FIRST: usize = 120;
 
@@ -244,7 +256,7 @@ impl<'a> Page<'a> {
         let middle = y.saturating_add(19);
         write!(
             self.text,
-            "<line class=\"rule\" x1=\"0\" x2=\"{NAMES}\" y1=\"{y}\" y2=\"{y}\"/>\n\
+            "<line class=\"rule\" x1=\"0\" x2=\"100%\" y1=\"{y}\" y2=\"{y}\"/>\n\
              <text class=\"label\" x=\"0\" y=\"{middle}\">"
         )?;
         let text = shown(self.alloc, json)?;
@@ -252,11 +264,26 @@ impl<'a> Page<'a> {
         self.text.push_str("</text>\n")
     }
 
+    /// How wide the names of the clients are.
+    fn names_width(&self) -> Result<usize, AllocError> {
+        let mut longest = 0usize;
+        for json in &self.recording.clients {
+            longest = longest.max(shown(self.alloc, json.as_str())?.chars().count());
+        }
+        Ok(
+            longest
+                .saturating_mul(CHARACTER)
+                .saturating_add(8)
+                .max(NAMES),
+        )
+    }
+
     /// The names of the clients, which stay where they are while the rest is scrolled.
     fn names(&mut self, high: usize) -> Result<(), AllocError> {
+        let wide = self.names_width()?;
         write!(
             self.text,
-            "<svg class=\"names\" width=\"{NAMES}\" height=\"{high}\">\n"
+            "<svg class=\"names\" width=\"{wide}\" height=\"{high}\">\n"
         )?;
         for (client, json) in self.recording.clients.iter().enumerate() {
             self.name_of(client, json.as_str())?;
@@ -483,6 +510,7 @@ impl<'a> Page<'a> {
         if let Answer::Impossible(..) = answer {
             self.text.push_str(TO_THE_LIMIT)?;
         }
+        self.text.push_str(LEGEND)?;
         self.judged(answer)?;
         self.text.push_str(FOOT)
     }

@@ -1,7 +1,7 @@
 use Rattle.std.proofs.Common.{◌≡◌, ◌++◌, ◌∷◌, [], ap, ◌∙◌, arith, ◌+◌}
 use Rattle.rayon.specs.Shown.{run-append}
 use Rattle.std.specs.List.{range_with_len}
-use Rattle.broker_checks.proofs.evicting.all_words.Goals as goal
+use Rattle.explore.proofs.evictions.all_words.Goals as goal
 
 pub loop-word-preserved : goal.loop-word-preserved
 loop-word-preserved c =

@@ -1,6 +1,6 @@
 use Rattle.std.proofs.Common.{◌≡◌, ◌-◌, ◌++◌}
 use Rattle.explore.specs.Points.{drawn_words}
-use Rattle.broker_checks.proofs.evicting.drawn_words.Given as goal
+use Rattle.explore.proofs.evictions.drawn_words.Given as goal
 
 -- the words so far, and those that are still drawn, are all
 abbrev pub invariant-loop-word : goal.invariant-loop-word

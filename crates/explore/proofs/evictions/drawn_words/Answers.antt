@@ -1,8 +1,8 @@
 use Rattle.std.proofs.Common.{◌≡◌, ◌+◌, ◌-◌, ◌++◌, ℕ, suc, ap, ◌∙◌, arith}
 use Rattle.explore.specs.Points.{drawn_words}
-use Rattle.broker_checks.proofs.Drawing.{draw_taken, draw_passed}
-use Rattle.broker_checks.proofs.evicting.drawn_words.Goals as goal
-use Rattle.broker_checks.proofs.evicting.drawn_words.Goals.{then-next_word-eq1+in_ok-push, else-next_word-eq1}
+use Rattle.explore.proofs.Drawing.{draw_taken, draw_passed}
+use Rattle.explore.proofs.evictions.drawn_words.Goals as goal
+use Rattle.explore.proofs.evictions.drawn_words.Goals.{then-next_word-eq1+in_ok-push, else-next_word-eq1}
 
 pub loop-word-preserved : goal.loop-word-preserved
 loop-word-preserved c =
