@@ -234,12 +234,12 @@ fn write_picture(
 }
 
 /// The whole page.
-fn write_page(
+fn write_page<'x>(
     alloc: Global,
     text: &mut String,
     queue: QueueLine,
-    layout: &Layout,
-    frames: &[Frame],
+    layout: &'x Layout,
+    frames: &'x [Frame],
 ) -> Result<(), AllocError> {
     let words = words_of(alloc, frames)?;
     let clients = u64::from(queue.clients);
