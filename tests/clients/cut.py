@@ -78,29 +78,30 @@ def cut_durable(server, operator):
     broker = Broker([proxy.address], client=2, rest=0.001)
     other = operator.durable("plain", create=True)
     for way in "sent", "got":
-        values, seen = [], set()
+        values, found = [], []
         for count in itertools.count():
             values += some(1)
             broker._link.drop()
             before = proxy.cuts
             proxy.cut(**{way: count})
-            found = name_of(raised(broker.durable("plain").put, values[-1]))
+            found.append(name_of(raised(broker.durable("plain").put, values[-1])))
             proxy.cut()
             if proxy.cuts == before:
                 break
-            seen.add(found)
         time.sleep(0.1)
         left = other.take_many(1000)
-        said = f"seen {seen}, {len(left)} of {len(values)}: {left}"
-        is_right = seen == {"InDoubt"} and len(set(left)) == len(left) and set(left) <= set(values) and values[-1] in left
-        say(f"cut: durable put, {way}", "" if is_right and (way == "sent" or len(left) > 10) else said)
+        answered = {value for value, it in zip(values, found) if it == "NoneType"}
+        is_right = set(found) == {"InDoubt", "NoneType"} and answered <= set(left) <= set(values)
+        is_once = len(set(left)) == len(left) >= (10 if way == "got" else 1)
+        say(f"cut: durable put, {way}, {len(found)} places", "" if is_right and is_once else f"{found}, and left {left}")
 
 
 def deaths(server, operator, folder, name):
-    """The process dies at each moment of a call, and the next one goes on by the state file."""
+    """The process dies at each moment of a call, and the next one goes on by the state file. Or it lives, as where the
+    exception is a KeyboardInterrupt that somebody catches, and goes on itself."""
     held, call, putting = CALLS[name]
     other = operator.log("jobs")
-    for moment in MOMENTS:
+    for moment, lives in itertools.product(MOMENTS, (False, True)):
         said, turns = [], 0
         for turn in itertools.count(1):
             path = f"{folder}/death"
@@ -111,9 +112,12 @@ def deaths(server, operator, folder, name):
             queue.settle()
             die_at(broker, moment, turn)
             found, died = dying(call, queue, values)
-            broker._leave()
             turns += died
-            found += settled(server, path) if died else []
+            if died and lives:
+                found += [it.value for it in queue.settle() if it.value is not None]
+            broker._leave()
+            if died and not lives:
+                found += settled(server, path)
             if found not in (values, []) if putting else found != wanted[: len(found)]:
                 said.append(f"turn {turn}: {found}")
             left = other.take_many(9)
@@ -122,7 +126,7 @@ def deaths(server, operator, folder, name):
             if not died:
                 break
         said += [] if turns else ["it never died"]
-        say(f"death: {name}, {moment}, {turns} times", "; ".join(said))
+        say(f"{'stopped' if lives else 'death'}: {name}, {moment}, {turns} times", "; ".join(said))
 
 
 def dying(call, queue, values):

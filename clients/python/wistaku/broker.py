@@ -80,6 +80,7 @@ class Broker:
 
     def _leave(self) -> None:
         self._link.drop()
+        self._link.is_closed = True
         if self._state is not None:
             self._state.close()
             self._state = None

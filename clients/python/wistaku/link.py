@@ -6,11 +6,12 @@ import io
 import json
 import socket
 import time
-from typing import Any, BinaryIO, Sequence
+from typing import Any, BinaryIO, Dict, Sequence
 
 from .errors import RETRIED, Denied, Unreachable, WistakuError, refusal
 
-Reply = dict[str, Any]
+Request = Dict[str, Any]
+Reply = Dict[str, Any]
 # The longest rest between two tries, in seconds: each is twice the one before.
 LONGEST_REST = 1.0
 
@@ -19,7 +20,7 @@ class Lost(WistakuError):
     """The connection is gone, or a reply did not come in time."""
 
 
-def line_of(request: dict[str, Any]) -> bytes:
+def line_of(request: Request) -> bytes:
     return json.dumps(request, separators=(",", ":")).encode() + b"\n"
 
 
@@ -50,6 +51,9 @@ class Link:
         self.at = 0
         self.socket: socket.socket | None = None
         self.replies: BinaryIO = io.BytesIO()
+        # How many replies are still to come on this connection.
+        self.unread = 0
+        self.is_closed = False
 
     @staticmethod
     def parted(address: str) -> tuple[str, int]:
@@ -59,7 +63,14 @@ class Link:
         return host, int(port)
 
     def open(self) -> None:
-        """Sees to it that there is a connection, which has said the secret: to each address in turn, once."""
+        """Sees to it that there is a connection, which has said the secret: to each address in turn, once.
+
+        One on which replies were left, as by an exception of another kind, is not used again: they are of other calls.
+        """
+        if self.is_closed:
+            raise WistakuError("the broker is closed")
+        if self.unread:
+            self.drop()
         for _ in self.addresses:
             if self.socket is not None:
                 return
@@ -79,7 +90,7 @@ class Link:
             self.drop()
             raise Lost(str(error)) from error
         if self.secret is not None:
-            self.send(line_of({"op": "hello", "secret": self.secret}))
+            self.send([{"op": "hello", "secret": self.secret}])
             denied = refusal(self.receive())
             if denied is not None:
                 self.drop()
@@ -92,11 +103,13 @@ class Link:
             self.replies.close()
             self.socket.close()
             self.socket = None
+        self.unread = 0
 
-    def send(self, lines: bytes) -> None:
+    def send(self, requests: list[Request]) -> None:
         assert self.socket is not None
+        self.unread += len(requests)
         try:
-            self.socket.sendall(lines)
+            self.socket.sendall(b"".join(map(line_of, requests)))
         except OSError as error:
             self.drop()
             raise Lost(str(error)) from error
@@ -112,14 +125,15 @@ class Link:
         if not isinstance(reply, dict):
             self.drop()
             raise Lost("the connection ended before a reply")
+        self.unread -= 1
         return reply
 
-    def ask(self, request: dict[str, Any], patience: Patience) -> Reply:
+    def ask(self, request: Request, patience: Patience) -> Reply:
         """The reply to a request that may be made more than once. It is asked again until one comes."""
         while True:
             try:
                 self.open()
-                self.send(line_of(request))
+                self.send([request])
                 reply = self.receive()
             except Lost as lost:
                 problem: WistakuError = Unreachable(str(lost))

@@ -7,8 +7,8 @@ from collections import deque
 from dataclasses import dataclass
 from typing import TYPE_CHECKING, Any, Iterable, NamedTuple, Sequence
 
-from .errors import RETRIED, Gap, InDoubt, NoRoom, NotOurs, Old, Unreachable, WistakuError, refusal
-from .link import LONGEST_REST, Lost, Patience, Reply, line_of
+from .errors import RETRIED, Gap, InDoubt, NoRoom, NotOurs, Old, Unreachable, WistakuError, WrongKind, refusal
+from .link import LONGEST_REST, Lost, Reply
 
 if TYPE_CHECKING:
     from .broker import Broker
@@ -156,7 +156,7 @@ class DurableQueue(Queue):
     def _sent_once(self, op: str, value: bytes) -> Reply:
         link = self.broker._link
         try:
-            link.send(line_of(self._request(op, value)))
+            link.send([self._request(op, value)])
             reply = link.receive()
         except Lost as lost:
             raise InDoubt(f"{op} in {self.name}: {lost}") from lost
@@ -187,10 +187,11 @@ class LogQueue(Queue):
         # The calls that were made last, one or a batch, and how many of them, the first ones, are settled.
         self._calls: list[Call] = []
         self._done = 0
+        self._is_noted = True
         # The number that is too high from which a call comes down to the first one that is not, while it does.
         self._top: int | None = None
         # How many of `_items` the state file has, if it has no others.
-        self._noted: int | None = None
+        self._items_noted: int | None = None
         record = broker._state.records.get(name) if broker._state else None
         if record is not None:
             self._number, self._top = record["number"] or self._number, record["top"]
@@ -201,15 +202,16 @@ class LogQueue(Queue):
     def settle(self) -> list[Settled]:
         """Sends what is under way until it is answered, and says what it came to, and which messages nobody took yet.
 
-        What is under way is what `InDoubt` was raised of, and by the state file the last call of the process before.
-        Messages that this answers are handed out: no take has them again.
+        What is under way is the call or the batch that `InDoubt` was raised of, or another exception, as
+        KeyboardInterrupt, has ended; and by the state file the last one of the process before. Messages that this
+        answers are handed out: no take has them again.
         """
         with self.broker.lock:
-            open_calls = self._calls[self._done :]
+            open_calls = self._calls if self._done < len(self._calls) else []
             self._settle()
             items = {it.number: it for it in self._items}
             self._items.clear()
-            self._noted = None
+            self._items_noted = None
             for call in open_calls:
                 items.setdefault(call.number, Settled(call.number, call.op, call.value if call.op == "put" else None))
             return [items[number] for number in sorted(items)]
@@ -253,7 +255,7 @@ class LogQueue(Queue):
         return len(self._items) > before
 
     def _hand_out(self) -> Settled:
-        self._noted = None
+        self._items_noted = None
         return super()._hand_out()
 
     def _call(self, op: str, values: list[bytes], before: Sequence[Call] = ()) -> None:
@@ -261,29 +263,31 @@ class LogQueue(Queue):
         assert self._number is not None
         self._calls = [*before, *(Call(number, op, it) for number, it in enumerate(values, self._number))]
         self._done = len(before)
-        try:
-            if values:
-                self._note()
-        except OSError:
-            # Nothing is sent that is not noted.
-            del self._calls[self._done :]
-            raise
+        self._is_noted = not values
         self._settle()
 
     def _note(self, syncs: bool = True) -> None:
         """Writes into the state file, if there is one, what a process has to know that goes on from here."""
         state = self.broker._state
+        self._is_noted = state is None
         if state is None:
             return
         calls = [[it.op, it.value.hex()] for it in self._calls]
         number = self._calls[0].number if self._calls else self._number
-        items = [[it.number, (it.value or b"").hex()] for it in self._items][self._noted or 0 :]
+        items = [[it.number, (it.value or b"").hex()] for it in self._items][self._items_noted or 0 :]
         record = {"queue": self.name, "number": number, "top": self._top, "calls": calls}
-        state.write({**record, "items" if self._noted is None else "more": items}, syncs)
-        self._noted = len(self._items)
+        state.write({**record, "items" if self._items_noted is None else "more": items}, syncs)
+        self._items_noted = len(self._items)
+        self._is_noted = True
 
     def _settle(self) -> None:
-        """Sends what is pending until all of it is answered, or gives up."""
+        """Sends what is pending until all of it is answered, or gives up. What can't be noted is not sent, nor kept."""
+        try:
+            if not self._is_noted:
+                self._note()
+        except OSError:
+            del self._calls[self._done :]
+            raise
         patience = self.broker._patience()
         while self._done < len(self._calls):
             before = self._done
@@ -299,25 +303,22 @@ class LogQueue(Queue):
     def _round(self) -> WistakuError | None:
         """Sends the first pending calls and reads their replies, up to the first one that does not settle its call."""
         link = self.broker._link
-        window = self._calls[self._done : self._done + WINDOW]
-        unread = deque(window)
+        window = [(it, it.doubt) for it in self._calls[self._done : self._done + WINDOW]]
         problem: WistakuError | None = None
         try:
             link.open()
         except Lost as lost:
             return Unreachable(str(lost))
+        # Whatever ends this, what was not answered is in doubt.
+        for call, _ in window:
+            call.doubt = True
         try:
-            link.send(b"".join(line_of(self._request(it.op, it.value, number=it.number)) for it in window))
-            while unread:
+            link.send([self._request(it.op, it.value, number=it.number) for it, _ in window])
+            for call, was_in_doubt in window:
                 reply = link.receive()
-                call = unread.popleft()
-                if problem is None:
-                    problem = self._judged(call, reply)
-                elif "error" not in reply:
-                    call.doubt = True
+                call.doubt = was_in_doubt or problem is not None and "error" not in reply
+                problem = problem or self._judged(call, reply)
         except Lost as lost:
-            for call in unread:
-                call.doubt = True
             problem = problem or lost
         return problem
 
@@ -361,6 +362,8 @@ class LogQueue(Queue):
         """
         told = self.told()
         number = int(told.get("number", 1))
+        if "told" not in told:
+            raise WrongKind
         if told["told"] != "taken":
             self._number = self._top = number + RECORDS + 1
             return
