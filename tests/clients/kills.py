@@ -25,7 +25,7 @@ from harness import MOMENTS, Died, Server, die_at, seeded
 import bent as bent_clients
 import wistaku.broker
 import wistaku.link
-from wistaku import Broker, WistakuError
+from wistaku import Broker, InDoubt, WistakuError
 from wistaku.errors import NoRoom
 
 PLAYERS, DRAINER = range(6), 7
@@ -38,7 +38,7 @@ class Recorder:
 
     def __init__(self):
         self.lines, self.lock = [], threading.Lock()
-        self.put, self.got, self.seen = set(), Counter(), Counter()
+        self.put, self.doubted, self.got, self.seen = set(), set(), Counter(), Counter()
         self.wrong = []
 
     def note(self, **line):
@@ -65,12 +65,17 @@ class Recorder:
     def refused(self, client, at):
         self.note(client=f"{client}.{at}", reply="refused")
 
+    def unknown(self, client, at, value):
+        with self.lock:
+            self.doubted.add(value)
+        self.note(client=f"{client}.{at}", reply="unknown")
+
     def balance(self):
-        """How many messages were lost, doubled, and got though they had not been put."""
+        """How many messages were lost, doubled, and got though they had not been put. One that is in doubt may be."""
         return {
             "lost": sum(it not in self.got for it in self.put),
             "doubled": sum(count > 1 for count in self.got.values()),
-            "strange": sum(it not in self.put for it in self.got),
+            "strange": len(set(self.got) - self.put - self.doubted),
         }
 
     def judged(self, pqx, path):
@@ -111,14 +116,35 @@ class Player:
             self.recorder.seen["processes without a memory"] += 1
         self.recorder.begin(self.client, op, asked)
         try:
+            self.call_or_die(op, asked)
+        except InDoubt as doubt:
+            self.left_in_doubt(doubt, op, asked)
+            raise
+        self.recorder.seen["calls"] += count
+        self.last = (self.queue._number or 1) - 1
+
+    def left_in_doubt(self, doubt, op, asked):
+        """There is no room for what is in doubt, nor will be: this client ends."""
+        if not isinstance(doubt.__cause__, NoRoom):
+            self.recorder.wrong.append(f"client {self.client}: {doubt!r}")
+        taken = [it.value for it in self.queue._items]
+        for at, value in enumerate(asked):
+            if op == "put" and at < doubt.answered:
+                self.recorder.done(self.client, at, value)
+            elif op == "take" and at < len(taken):
+                self.recorder.took(self.client, at, taken[at])
+            else:
+                self.recorder.unknown(self.client, at, value)
+        self.recorder.seen["ended in doubt"] += 1
+
+    def call_or_die(self, op, asked):
+        try:
             self.call(op, asked)
         except Died:
             self.broker._leave()
             self.connect()
             self.recorder.seen["processes that died"] += 1
             self.resume(op, asked)
-        self.recorder.seen["calls"] += count
-        self.last = (self.queue._number or 1) - 1
 
     def call(self, op, asked):
         if op == "put":
@@ -190,6 +216,8 @@ class Player:
         try:
             while not stop.is_set():
                 self.turn()
+        except InDoubt:
+            pass
         except (WistakuError, OSError) as error:
             self.recorder.wrong.append(f"client {self.client}: {error!r}")
 
@@ -272,7 +300,7 @@ def main(pqd, pqx, kills, bent=None):
     for it in wrong:
         print(f"WRONG: {it}")
     counts = ["kills", "crashes", "calls", "processes that died", "processes without a memory", "refused",
-        "lines explained", "lost", "doubled", "strange"]
+        "ended in doubt", "lines explained", "lost", "doubled", "strange"]
     print(", ".join(f"{it} {seen[it]}" for it in counts), f"in {time.monotonic() - begin:.0f} s, SEED={seed}")
     return 1 if wrong else 0
 
