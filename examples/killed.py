@@ -2,8 +2,8 @@
 """A server that is killed in the middle of calls, and a client that need not know: python3 killed.py PQD.
 
 The server has a journal, so that a stop of its process is a crash like any other: the next server begins on what the
-journal has. Whether the put that was under way took effect before the kill, nobody knows. The client sends it again with
-its number, until it is answered, and it takes effect once.
+journal has. Whether the put that was under way took effect before the kill, nobody knows. The client sends it again
+with its number, until it is answered, and it takes effect once.
 """
 import os
 import subprocess

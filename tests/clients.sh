@@ -1,9 +1,10 @@
 #!/usr/bin/env bash
-# clients.sh [KILLS]: the client in clients/python, as pip installs it where pip is there. Each of its calls, every error
-# by name, a connection that is cut at every place of a line and of its reply, a process that dies at every moment of a
-# call, and a server with a journal that is killed (SIGKILL) under it: so often in all, or 60 times. Clients that do one
-# thing wrong are seen to be caught. With KILLS it plays the kills alone, and says what it counted. SEED names a run.
-# It takes the programs that the last `rt ci`, or `rt run`, left, or those that PQD and PQX name.
+# clients.sh [KILLS]: the client in clients/python, as pip installs it where pip is there. Each of its calls, every
+# error by name, a connection that is cut at every place of a line and of its reply, a process that dies at every
+# moment of a call, and a server with a journal that is killed (SIGKILL) under it: so often in all, or 60 times.
+# Clients that do one thing wrong are seen to be caught. With KILLS it plays the kills alone, and says what it
+# counted. SEED names a run. It takes the programs that the last `rt ci`, or `rt run`, left, or those that PQD and PQX
+# name.
 set -eu
 cd "$(dirname "$0")/.."
 . tests/cases.sh
@@ -34,7 +35,9 @@ if [ $# -eq 0 ]; then
         leave_out "pip install ./clients/python, as pip does not work here: $(tail -n 1 "$work/err")"
     fi
     for part in calls cut; do
-        timeout 300 python3 -B "tests/clients/$part.py" "$pqd" > "$work/cases" 2> "$work/err" || judge "$part" "$(cat "$work/err")"
+        status=0
+        timeout 300 python3 -B "tests/clients/$part.py" "$pqd" > "$work/cases" 2> "$work/err" || status=$?
+        judge "$part" "$([ "$status" -eq 0 ] || { echo "status $status" && cat "$work/err"; })"
         while IFS=$'\t' read -r name said; do
             judge "$name" "$said"
         done < "$work/cases"

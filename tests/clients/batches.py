@@ -1,7 +1,8 @@
 """batches.py PQD KILLS: long batches of puts, whose server is killed (SIGKILL) so often at random moments.
 
-Each client puts its messages in batches of up to 400, half of the clients with a state file, whose process dies now and
-then. At the end of a life all is taken, by one client after another: of each client every message, once, in the order of its puts.
+Each client puts its messages in batches of up to 400, half of the clients with a state file, whose process dies now
+and then. At the end of a life all is taken, by one client after another: of each client every message, once, in the
+order of its puts.
 """
 
 import random

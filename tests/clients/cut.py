@@ -93,7 +93,8 @@ def cut_durable(server, operator):
         answered = {value for value, it in zip(values, found) if it == "NoneType"}
         is_right = set(found) == {"InDoubt", "NoneType"} and answered <= set(left) <= set(values)
         is_once = len(set(left)) == len(left) >= (10 if way == "got" else 1)
-        say(f"cut: durable put, {way}, {len(found)} places", "" if is_right and is_once else f"{found}, and left {left}")
+        wrong = "" if is_right and is_once else f"{found}, and left {left}"
+        say(f"cut: durable put, {way}, {len(found)} places", wrong)
 
 
 def deaths(server, operator, folder, name):

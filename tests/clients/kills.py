@@ -2,9 +2,9 @@
 
 Six clients put into a log queue and take from it, one by one and in batches. The server has a journal and begins again
 on it each time. Now and then the broker crashes and recovers by another connection. Clients with a state file die at
-random moments too, and the next process goes on; one without goes away between two calls, and begins again by what it is
-told. At the end of a life, some ten kills, all is drained: no message may be lost, doubled or strange, and `pqx check`
-explains what the clients saw. A call spans a kill, since it is sent again, so the recordings have no crashes.
+random moments too, and the next process goes on. One without goes away between two calls, and begins again by what it
+is told. At the end of a life, some ten kills, all is drained: no message may be lost, doubled or strange, and `pqx
+check` explains what the clients saw. A call spans a kill, since it is sent again, so the recordings have no crashes.
 
 BENT is a wrong client of bent.py. The last line counts; a line before it says what is wrong.
 """

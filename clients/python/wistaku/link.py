@@ -41,7 +41,7 @@ class Patience:
 
 
 class Link:
-    """At most one connection, to the address that is tried now. A failure of it is `Lost`, and the next one is tried."""
+    """At most one connection, to the address that is tried now. A failure of it is `Lost`; then the next one is."""
 
     def __init__(self, addresses: Sequence[str], secret: str | None, timeout: float) -> None:
         self.addresses = [self.parted(it) for it in addresses]

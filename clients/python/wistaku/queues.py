@@ -304,7 +304,6 @@ class LogQueue(Queue):
         """Sends the first pending calls and reads their replies, up to the first one that does not settle its call."""
         link = self.broker._link
         window = [(it, it.doubt) for it in self._calls[self._done : self._done + WINDOW]]
-        problem: WistakuError | None = None
         try:
             link.open()
         except Lost as lost:
@@ -314,12 +313,17 @@ class LogQueue(Queue):
             call.doubt = True
         try:
             link.send([self._request(it.op, it.value, number=it.number) for it, _ in window])
-            for call, was_in_doubt in window:
-                reply = link.receive()
-                call.doubt = was_in_doubt or problem is not None and "error" not in reply
-                problem = problem or self._judged(call, reply)
+            return self._read(window)
         except Lost as lost:
-            problem = problem or lost
+            return lost
+
+    def _read(self, window: list[tuple[Call, bool]]) -> WistakuError | None:
+        """Reads the replies to these calls, which were in doubt before or not, and says what the first problem is."""
+        problem: WistakuError | None = None
+        for call, was_in_doubt in window:
+            reply = self.broker._link.receive()
+            call.doubt = was_in_doubt or problem is not None and "error" not in reply
+            problem = problem or self._judged(call, reply)
         return problem
 
     def _judged(self, call: Call, reply: Reply) -> WistakuError | None:
