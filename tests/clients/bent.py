@@ -20,11 +20,20 @@ class NewNumber(LogQueue):
 
 
 class TrustsTold(LogQueue):
-    """It goes on from the number that it is told, though that is of when the broker last recovered."""
+    """It goes on from the number that it is told, though that is of when the broker last recovered: from there it takes
+    the first number that is not Old for a new one."""
 
     def _find(self):
         told = self.told()
         self._number = told.get("number", 1) + (told["told"] == "taken")
+
+    def _round(self):
+        problem = super()._round()
+        if isinstance(problem, Old):
+            for call in self._calls[self._done :]:
+                call.number += 1
+            return Lost("the next one")
+        return problem
 
 
 class Forgets(LogQueue):
@@ -55,6 +64,8 @@ class TakesAtOnce(LogQueue):
     def take_many(self, most):
         with self.broker.lock:
             self._begin()
+            if self._top is not None:
+                return super().take_many(most)
             self._call("take", [b""] * most)
             found = [it.value for it in self._items]
             self._items.clear()

@@ -6,7 +6,8 @@ random moments too, and the next process goes on. One without goes away between 
 is told. At the end of a life, some ten kills, all is drained: no message may be lost, doubled or strange, and `pqx
 check` explains what the clients saw. A call spans a kill, since it is sent again, so the recordings have no crashes.
 
-BENT is a wrong client of bent.py. The last line counts; a line before it says what is wrong.
+BENT is a wrong client of bent.py: what it raises itself is left alone, so that it is caught by what it did. The last
+line counts; a line before it says what is wrong.
 """
 
 import itertools
@@ -39,7 +40,7 @@ class Recorder:
     def __init__(self):
         self.lines, self.lock = [], threading.Lock()
         self.put, self.doubted, self.got, self.seen = set(), set(), Counter(), Counter()
-        self.wrong = []
+        self.wrong, self.raised = [], []
 
     def note(self, **line):
         with self.lock:
@@ -89,6 +90,8 @@ class Recorder:
 class Player:
     """A client, which is made anew now and then: with a state file if it has one, and else by what it is told."""
 
+    patience = 60.0
+
     def __init__(self, client, address, folder, recorder, values):
         self.client, self.address, self.recorder, self.values = client, address, recorder, values
         self.state = f"{folder}/state-{client}" if client % 2 else None
@@ -100,7 +103,8 @@ class Player:
         self.last, self.newest = 0, []
 
     def connect(self, last=None):
-        self.broker = Broker([self.address], self.client, state=self.state, rest=0.002, timeout=20)
+        how = {"rest": 0.002, "timeout": 20, "patience": self.patience}
+        self.broker = Broker([self.address], self.client, state=self.state, **how)
         self.queue = self.broker.log("jobs", last=last)
 
     def turn(self):
@@ -126,7 +130,7 @@ class Player:
     def left_in_doubt(self, doubt, op, asked):
         """There is no room for what is in doubt, nor will be: this client ends."""
         if not isinstance(doubt.__cause__, NoRoom):
-            self.recorder.wrong.append(f"client {self.client}: {doubt!r}")
+            self.recorder.raised.append(f"client {self.client}: {doubt!r}")
         taken = [it.value for it in self.queue._items]
         for at, value in enumerate(asked):
             if op == "put" and at < doubt.answered:
@@ -219,7 +223,7 @@ class Player:
         except InDoubt:
             pass
         except (WistakuError, OSError) as error:
-            self.recorder.wrong.append(f"client {self.client}: {error!r}")
+            self.recorder.raised.append(f"client {self.client}: {error!r}")
 
 
 class Life:
@@ -254,7 +258,7 @@ class Life:
         stop = threading.Event()
         threads = [threading.Thread(target=it.play, args=(stop,)) for it in self.players]
         [it.start() for it in threads]
-        while self.recorder.seen["kills"] < kills and not self.recorder.wrong and self.recorder.seen["calls"] < 20000:
+        while self.recorder.seen["kills"] < kills and not self.recorder.wrong:
             self.goes_down()
         stop.set()
         [it.join() for it in threads]
@@ -281,8 +285,9 @@ class Life:
         recorder.seen.update(recorder.balance())
         wrong += [f"{count} messages {what}" for what, count in recorder.balance().items() if count]
         said = recorder.judged(self.pqx, f"{self.folder}/recording")
-        recorder.seen["lines explained"] += len(recorder.lines)
-        if not said.startswith("explained:"):
+        if said.startswith("explained:"):
+            recorder.seen["lines explained"] += len(recorder.lines)
+        else:
             wrong.append(f"pqx check: {said}")
         return recorder.seen, wrong
 
@@ -293,9 +298,12 @@ def main(pqd, pqx, kills, bent=None):
     begin, seen, wrong, seed = time.monotonic(), Counter(), [], seeded()
     if bent is not None:
         wistaku.broker.LogQueue = bent_clients.BENT[bent]
+        Player.patience = 3.0
     while seen["kills"] < int(kills) and not wrong:
         with tempfile.TemporaryDirectory() as folder:
-            of_life, wrong = Life(pqd, pqx, folder).run(min(KILLS_OF_A_LIFE, int(kills) - seen["kills"]))
+            life = Life(pqd, pqx, folder)
+            of_life, wrong = life.run(min(KILLS_OF_A_LIFE, int(kills) - seen["kills"]))
+        wrong += life.recorder.raised if bent is None else []
         seen += of_life
     for it in wrong:
         print(f"WRONG: {it}")
