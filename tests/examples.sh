@@ -46,7 +46,8 @@ cat <&3 > "$work/out"
 exec 3>&-
 status=0
 wait "$server" || status=$?
-cp "$work/warned" "$work/err"
+# The process that resume.py kills may leave a connection that fails.
+grep -v 'a connection ended: 26 ReadFailed$' "$work/warned" > "$work/err" || true
 compare stop 0 "$status" tests/examples/stop.out /dev/null
 
 # The image is that of the queues that the clients made.

@@ -22,7 +22,7 @@ from pathlib import Path
 
 PAGES = Path(sys.argv[1] if len(sys.argv) > 1 else ".")
 PLACEHOLDERS = re.compile(r"\b(CRATE|NAME|FILE|FOLDER|NUMBER|PART|MINUTES)\b")
-ROOTS = "crates|tests|docs|bench|examples|plain|tools"
+ROOTS = "crates|tests|docs|bench|examples|plain|tools|clients"
 
 
 def crates():
