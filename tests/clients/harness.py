@@ -1,6 +1,7 @@
 """What the tests of clients/python share: a server that is killed and started again, and cases that are printed as a
 line each: a name, a tab, and what is wrong, or nothing."""
 
+import atexit
 import json
 import os
 import random
@@ -40,6 +41,8 @@ class Server:
     def __init__(self, pqd, folder, *options):
         self.pqd, self.options, self.port = pqd, list(options), 0
         self.journal = ["--journal", f"{folder}/journal"] if folder else []
+        # No server outlives a test, also one that fails or is stopped.
+        atexit.register(lambda: self.process.kill())
         self.start()
 
     def start(self, *more):
@@ -145,6 +148,9 @@ class Proxy:
                 it.shutdown(socket.SHUT_RDWR)
             except OSError:
                 pass
+
+
+signal.signal(signal.SIGTERM, lambda *_: sys.exit("stopped"))
 
 
 class Died(BaseException):
