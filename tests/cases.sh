@@ -69,6 +69,19 @@ need() {
     done
 }
 
+# A copy of the plain programs with one place changed: FILE OLD NEW. The old text stands there once.
+change() {
+    rm -rf "$work/plain"
+    cp -r bench/plain "$work/plain"
+    [ "$(grep -cF -- "$2" "bench/plain/$1")" -eq 1 ] || judge "$1" "$2 does not stand in one line"
+    python3 - "$work/plain/$1" "$2" "$3" << 'PYTHON'
+import sys
+path, old, new = sys.argv[1:]
+text = open(path).read()
+open(path, "w").write(text.replace(old, new))
+PYTHON
+}
+
 # A copy of the plain programs ($work/right, as $work/plain) that is wrong in one place is seen by a part, which says
 # then what differs: FILE OLD NEW PART. The old text stands there once.
 wrong() {
