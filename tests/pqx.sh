@@ -209,7 +209,7 @@ for script in examples/crash.script examples/kept.script tests/pages/*.script; d
     judge "the page of $name" "$(difference 'the page' "tests/pages/$name.html" "$work/page")"
 done
 status=0
-cp "$work/wanted" "$work/transcript"
+"$pqx" run < examples/kept.script > "$work/transcript"
 printf 'pqx: 27 WriteFailed\n' > "$work/wanted"
 "$pqx" run --page "$work/none/page" < examples/kept.script > "$work/out" 2> "$work/err" || status=$?
 compare 'a run without a folder for its page' 1 "$status" "$work/transcript" "$work/wanted"
