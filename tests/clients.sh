@@ -36,7 +36,7 @@ if [ $# -eq 0 ]; then
     fi
     for part in calls cut; do
         status=0
-        timeout 300 python3 -B "tests/clients/$part.py" "$pqd" > "$work/cases" 2> "$work/err" || status=$?
+        timeout 900 python3 -B "tests/clients/$part.py" "$pqd" > "$work/cases" 2> "$work/err" || status=$?
         judge "$part" "$([ "$status" -eq 0 ] || { echo "status $status" && cat "$work/err"; })"
         while IFS=$'\t' read -r name said; do
             judge "$name" "$said"

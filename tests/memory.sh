@@ -122,7 +122,7 @@ refuse 'pqx broker points' "$work/in" "$pqx" broker points
 # Requests that are refused memory are sent again, and calls that are left unfinished are finished: which ones. A pipe
 # has its session for itself, and the desk of a server shares it.
 status=0
-timeout 300 python3 -B tests/requests_refused.py "$pqd" "$work/refusing.so" tests/memory pipe:created pipe:told \
+timeout 900 python3 -B tests/requests_refused.py "$pqd" "$work/refusing.so" tests/memory pipe:created pipe:told \
     pipe:down pipe:stopped serve:desk > "$work/out" || status=$?
 cat "$work/out"
 judge 'each allocation refused: pqd' "$([ "$status" -eq 0 ] || echo "status $status")"
@@ -133,7 +133,7 @@ done < tests/memory/requests
 # A copy of that script in which a comparison is turned says what it then finds: OLD NEW SAID
 wrong_requests() {
     sed "s/$1/$2/" tests/requests_refused.py > "$work/wrong.py"
-    timeout 300 python3 -B "$work/wrong.py" "$pqd" "$work/refusing.so" tests/memory pipe:created > "$work/out" || true
+    timeout 900 python3 -B "$work/wrong.py" "$pqd" "$work/refusing.so" tests/memory pipe:created > "$work/out" || true
     judge "requests with '$2'" "$(grep -q "$3" "$work/out" || echo "it does not say: $3")"
 }
 wrong_requests 'self.look() != seen' 'self.look() == seen' 'is refused memory, and changes something'
