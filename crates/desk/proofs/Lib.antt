@@ -1,4 +1,5 @@
 mod Settling
 mod Keeping
 mod Telling
+mod Turns
 pub mod Facts

@@ -1,22 +1,27 @@
 -- What a call is answered, after one that was left open.
-use Rattle.std.proofs.Common.{◌≡◌, ℕ, List, Option, Some, None, refl, sym, subst, inl, inr}
-use Rattle.std.specs.Prelude.{IfSome, IsNone, IsTrue}
+use Rattle.std.proofs.Common.{◌≡◌, true, ℕ, List, Option, Some, Result, Ok, Err, refl, sym, subst, inl, inr}
 use Rattle.words.specs.declared.refusal.Refusal.{Refusal}
-use Rattle.words.specs.declared.refusal.Refusal.TheVariants.{Busy, Gap, NoClient, NoQueue, NotReady, Old, StaleNumber, WrongKind}
+use Rattle.words.specs.declared.refusal.Refusal.TheVariants.{NoQueue, NoRoom, NotReady}
 use Rattle.words.specs.declared.call.Client.{Client}
 use Rattle.words.specs.declared.call.Reply.{Reply as AnyReply}
 use Rattle.wire.specs.declared.answer.Answer.{Answer as WireAnswer}
 use Rattle.wire.specs.declared.answer.Answer.TheVariants.{Refused}
+use Rattle.directory.specs.Directory.{Directory}
+use Rattle.named.specs.Brokers.{Brokered}
 use Rattle.session.specs.Sessions.{Sessioned}
-use Rattle.workers.specs.Refusals.{IfNotMade, IsSettledAnswer, IsWhyNotTold, IsWhyRefused, WasSettled, is_call_refusal, is_told_refusal}
-use Rattle.workers.specs.declared.entry.Request.{Request as Call}
+use Rattle.workers.specs.Marks.{IsMarkedBy}
+use Rattle.workers.specs.Refusals.{IfNotMade, IsSettledAnswer, IsWhyRefused, WasSettled}
+use Rattle.workers.specs.Seen.{IfMade, IsCallRefused, IsListing}
 use Rattle.workers.specs.declared.entry.Answer.{Answer}
 use Rattle.workers.specs.declared.entry.Answer.TheVariants.{Interrupted as seat_interrupted, Refused as seat_refused}
 use Rattle.workers.specs.declared.entry.Answer.TheVariants.{Reply as seat_reply, Unfinished as seat_unfinished}
+use Rattle.workers.specs.declared.entry.End.{End}
+use Rattle.workers.specs.declared.entry.End.TheVariants.{Answered, Interrupted, Open}
 use Rattle.workers.specs.declared.entry.Entry.{Entry}
-use Rattle.workers.specs.Answers.{Remembers}
-use Rattle.desk.specs.Calls.{AnswersCall, IsOfNoName, IsSettled, IsSettledOnWire, answer_on_wire, call_in}
-use Rattle.desk.specs.Requests.{is_call_answer, is_nameless_call_answer, is_nameless_refusal}
+use Rattle.workers.specs.Answers.{HasOneMore, Remembers, entry_of}
+use Rattle.desk.specs.Answering.{IsCallAnswer, IsLastCall, IsRefusedIn, IsWhyNameless}
+use Rattle.desk.specs.Calls.{AnswersCall, IsOfNoName, IsSettled, IsSettledOnWire, answer_on_wire, call_in, why_nameless}
+use Rattle.desk.specs.Requests.{is_no_room}
 use Rattle.desk.specs.declared.calls.Asked.{Asked}
 
 -- after it the call is refused where its queue has no name, and the seat remembers no call more
@@ -25,58 +30,55 @@ pub refused_after : (first : Sessioned) (old now : List Entry) (asked : Asked) (
 refused_after first old now asked refusal settled none why =
     inr (inl (record { is_settled = settled; nameless = none; refusal = refusal; why = why; is = refl }))
 
--- a refusal of a queue of no name is one of a call, of a call in such a queue, and of what a client was last told
-pub why_fits : (refusal : Refusal) → IsOfNoName refusal → IsTrue (is_call_answer (Refused refusal))
-why_fits refusal (inl down) = rw down refl
-why_fits refusal (inr none) = rw none refl
+-- why a queue of no name is not found, as its list was answered
+pub why_listed : (b : Brokered) (listed : Result Directory Refusal) → IsListing b listed
+    → IsWhyNameless b (why_nameless listed)
+why_listed b (Ok places) is = is.0
+why_listed b (Err refusal) is = subst (IsWhyNameless b) (sym is.0) is.1
 
-pub why_nameless : (refusal : Refusal) → IsOfNoName refusal → IsTrue (is_nameless_refusal (Refused refusal))
-why_nameless refusal (inl down) = rw down refl
-why_nameless refusal (inr none) = rw none refl
+pub of_no_name : (b : Brokered) (refusal : Refusal) → IsWhyNameless b refusal → IsOfNoName refusal
+of_no_name b NoQueue why = inr refl
+of_no_name b NotReady why = inl refl
+of_no_name b _ why = absurd why
 
-pub why_not_told : (refusal : Refusal) → IsOfNoName refusal → IsTrue (is_told_refusal refusal)
-why_not_told refusal (inl down) = rw down refl
-why_not_told refusal (inr none) = rw none refl
+-- the call that its list has more
+last_call : (old new : List Entry) (asked : Asked) (name : List ℕ) (end : End) → asked.queue ≡ Some name
+    → HasOneMore old (call_in name asked) end new → IsLastCall new asked end
+last_call old new asked name end there more = record {
+  before = old;
+  entry = entry_of more.queue (call_in name asked) more.place end;
+  is = more.is;
+  queue = there;
+  number = refl;
+  call = refl;
+  ended = refl;
+}
 
--- and so is another of the latter
-pub told_fits : (clients : ℕ) (first : Sessioned) (name : List ℕ) (client : Client) (refusal : Refusal)
-    → IsWhyNotTold clients first name client refusal → IsTrue (is_told_refusal refusal)
-told_fits clients first name client NoClient why = refl
-told_fits clients first name client NotReady why = refl
-told_fits clients first name client NoQueue why = refl
-told_fits clients first name client _ why = absurd why
+-- what a seat was answered, at the session that was marked with the answer
+pub call_answer : (first s : Sessioned) (client : Client) (old new : List Entry) (asked : Asked) (name : List ℕ)
+    (given : Answer) → asked.queue ≡ Some name → Remembers old (call_in name asked) given new
+    → IfMade given (IsMarkedBy first client new s) → IfNotMade given (IsCallRefused old s client (call_in name asked))
+    → IsCallAnswer first s client asked (answer_on_wire given)
+call_answer first s client old new asked name (seat_reply reply) there more marked why =
+    record { list = new; last = last_call old new asked name (Answered reply) there more; marked = marked }
+call_answer first s client old new asked name (seat_refused refusal) there more marked (inl busy) = inl busy.0
+call_answer first s client old new asked name (seat_refused refusal) there more marked (inr (inl memory)) = inr (inl memory)
+call_answer first s client old new asked name (seat_refused refusal) there more marked (inr (inr why)) =
+    inr (inr (inl (subst (λ (q : Option (List ℕ)). IsRefusedIn s client asked q refusal) (sym there) why)))
+call_answer first s client old new asked name seat_interrupted there more marked why =
+    record { list = new; last = last_call old new asked name Interrupted there more; marked = marked }
+call_answer first s client old new asked name seat_unfinished there more marked why =
+    record { list = new; last = last_call old new asked name Open there more; marked = marked }
 
--- what a seat answers a call is one of a call on the wire too
-refusal_fits : (first : Sessioned) (list : List Entry) (r : Call) (refusal : Refusal)
-    → IsWhyRefused first list r refusal → IsTrue (is_call_refusal refusal)
-refusal_fits first list r Busy why = refl
-refusal_fits first list r NoQueue why = refl
-refusal_fits first list r WrongKind why = refl
-refusal_fits first list r Old why = refl
-refusal_fits first list r Gap why = refl
-refusal_fits first list r StaleNumber why = refl
-refusal_fits first list r NoClient why = absurd why
-refusal_fits first list r _ why = why
-
-pub wire_fits : (first : Sessioned) (list : List Entry) (r : Call) (given : Answer)
-    → IfNotMade given (IsWhyRefused first list r) → IsTrue (is_call_answer (answer_on_wire given))
-wire_fits first list r (seat_reply reply) why = refl
-wire_fits first list r (seat_refused refusal) why = refusal_fits first list r refusal why
-wire_fits first list r seat_interrupted why = refl
-wire_fits first list r seat_unfinished why = refl
-
--- what a seat answers a call in a queue of no name, a desk may
-pub nameless_fits : (answer : WireAnswer) → IsTrue (is_nameless_refusal answer) → IsTrue (is_nameless_call_answer answer)
-nameless_fits (Refused Busy) why = refl
-nameless_fits (Refused NotReady) why = refl
-nameless_fits (Refused NoQueue) why = refl
-nameless_fits _ why = absurd cc
-
-pub if_nameless : (asked : Option Asked) (answer : WireAnswer)
-    → IfSome asked (λ a. IsNone a.queue → IsTrue (is_nameless_refusal answer))
-    → IfSome asked (λ a. IsNone a.queue → IsTrue (is_nameless_call_answer answer))
-if_nameless None answer why = tt
-if_nameless (Some asked) answer why = λ none. nameless_fits answer (why none)
+-- a call that found no room, and whose queue could not begin in fresh records
+pub room_refused : (first s : Sessioned) (client : Client) (asked : Asked) (answer : WireAnswer) (refusal : Refusal)
+    → IsCallAnswer first s client asked answer → is_no_room answer ≡ true
+    → IsCallAnswer first s client asked (Refused refusal)
+room_refused first s client asked (Refused NoRoom) refusal (inl busy) none = absurd (cc busy)
+room_refused first s client asked (Refused NoRoom) refusal (inr (inl memory)) none = absurd (cc memory)
+room_refused first s client asked (Refused NoRoom) refusal (inr (inr (inl room))) none = inr (inr (inr room))
+room_refused first s client asked (Refused NoRoom) refusal (inr (inr (inr room))) none = inr (inr (inr room))
+room_refused first s client asked _ refusal is none = absurd (cc none)
 
 -- a call that is made in the queue of its name
 pub remembered : (first : Sessioned) (old settled new : List Entry) (asked : Asked) (name : List ℕ) (given : Answer)

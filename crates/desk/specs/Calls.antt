@@ -1,5 +1,5 @@
 -- What is answered to a put or a take, and what its seat's list has of it.
-use Rattle.std.specs.Prelude.{◌≡◌, ◌⊎◌, ℕ, true, false, List, Option, None, Some, IfSome, IsNone, IsTrue, Result, Ok, Err, MatchBool}
+use Rattle.std.specs.Prelude.{◌≡◌, ◌⊎◌, ℕ, true, false, List, Option, None, Some, IfSome, Result, Ok, Err, MatchBool}
 use Rattle.words.specs.declared.call.Call.TheVariants.{Enq, Deq}
 use Rattle.words.specs.declared.call.Client.{Client}
 use Rattle.words.specs.declared.call.Reply.{Reply as AnyReply}
@@ -19,7 +19,6 @@ use Rattle.workers.specs.declared.entry.Answer.TheVariants.{Reply as seat_reply,
 use Rattle.workers.specs.declared.entry.End.{End}
 use Rattle.workers.specs.declared.entry.Entry.{Entry}
 use Rattle.workers.specs.declared.entry.Request.{Request as Call}
-use Rattle.desk.specs.Requests.{is_nameless_call_answer}
 use Rattle.desk.specs.declared.calls.Asked.{Asked}
 
 -- what a put or a take asks for; another request asks for no call
@@ -70,11 +69,6 @@ why_nameless (Err refusal) = refusal
 -- a queue of no name is not there, or the broker recovers
 abbrev pub IsOfNoName : Refusal → Type 0
 IsOfNoName refusal = (refusal ≡ NotReady) ⊎ (refusal ≡ NoQueue)
-
--- where a call is asked for in such a queue, it is answered with a refusal that it may have
-abbrev pub IsNamelessAnswer : Request → Answer → Type 0
-IsNamelessAnswer request answer =
-    IfSome (asked_in request) (λ asked. IsNone asked.queue → IsTrue (is_nameless_call_answer answer))
 
 -- so a call in it is not made. A call that was left open is finished before
 pub record IsNotMade (old : List Entry) (asked : Asked) (answer : Answer) (new : List Entry) : Type 0 where

@@ -3,3 +3,4 @@ pub mod Requests
 pub mod Serving
 pub mod Worth
 pub mod Telling
+pub mod Answering

@@ -1,5 +1,5 @@
 -- What a desk has served: the requests that were made, with their answers.
-use Rattle.std.specs.Prelude.{◌≡◌, ℕ, ◌-◌, Bool, true, false, length, IfSome, IsSome, List, [], None, Option, Some, slice_get}
+use Rattle.std.specs.Prelude.{◌≡◌, ℕ, ◌-◌, Bool, true, false, length, IfSome, List, [], None, Option, Some, slice_get}
 use Rattle.words.specs.declared.refusal.Refusal.TheVariants.{NoClient}
 use Rattle.wire.specs.declared.answer.Answer.{Answer}
 use Rattle.wire.specs.declared.answer.Answer.TheVariants.{Refused}
@@ -7,7 +7,7 @@ use Rattle.wire.specs.declared.request.Request.{Request}
 use Rattle.chronicle.specs.Chronicled.{Chronicled, entries}
 use Rattle.session.specs.Sessions.{Sessioned}
 use Rattle.desk.specs.Requests.{is_answer_to, is_stop_answer, NamesNoClient}
-use Rattle.desk.specs.Telling.{AreReplied}
+use Rattle.desk.specs.Answering.{IsServedAtMark, IsServedInTurn}
 
 abbrev pub is_stopping : Option (Request × Answer) → Bool
 is_stopping (Some (request, answer)) = is_stop_answer answer
@@ -31,12 +31,9 @@ pub record Desked : Type 0 where
   pub marked : Option Sessioned
   pub assured : Option Sessioned
 
--- Each request has an answer that it may have. Each reply stands in its client's list at a session from which the one
--- goes on that was marked last; and each that is settled, so for the one of the last token. Without a token nothing is
--- settled.
+-- Each request was answered in turn, up to the session as it was marked last; and of these what is settled, up to the
+-- one of the last token. Without a token nothing is settled.
 pub record IsDesked (clients : ℕ) (first : Sessioned) (d : Desked) : Type 0 where
-  pub answered : AreAnswered clients (entries d.served)
-  pub marks : IsSome d.marked
-  pub told : IfSome d.marked (λ now. AreReplied first now (entries d.served))
-  pub lasting : IfSome d.assured (λ now. AreReplied first now d.served.settled)
+  pub turn : IsServedAtMark clients first (entries d.served) d.marked
+  pub lasting : IfSome d.assured (IsServedInTurn clients first d.served.settled)
   pub known : d.assured ≡ None → d.served.settled ≡ []

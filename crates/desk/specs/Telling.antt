@@ -1,5 +1,5 @@
 -- Replies that the lists of seats have, at sessions that were marked.
-use Rattle.std.specs.Prelude.{◌≡◌, ℕ, IfSome, List, None, Option, Some, slice_get}
+use Rattle.std.specs.Prelude.{◌≡◌, ℕ, List, None, Option, Some, slice_get}
 use Rattle.words.specs.declared.call.Client.{Client}
 use Rattle.words.specs.declared.call.Reply.{Reply as AnyReply}
 use Rattle.session.specs.Sessions.{Sessioned}
@@ -37,11 +37,6 @@ abbrev pub IsRepliedIf : Sessioned → Sessioned → Client → Option Asked →
 IsRepliedIf first now client (Some asked) (Reply reply) = IsReplied first now client asked reply
 IsRepliedIf first now client _ _ = Unit {0}
 
--- where sessions are marked, it stands there at the one that is marked now
-abbrev pub IsRepliedAtMark : Sessioned → Option Sessioned → Client → Request → Answer → Type 0
-IsRepliedAtMark first marked client request answer =
-    IfSome marked (λ now. IsRepliedIf first now client (asked_in request) answer)
-
 -- who asks, by a put or a take
 abbrev pub client_in : Request → Client
 client_in (Put client queue value number) = record { 0 = client }
@@ -55,10 +50,3 @@ IsRepliedTo first now request answer = IsRepliedIf first now (client_in request)
 pub record AreReplied (first now : Sessioned) (served : List (Request × Answer)) : Type 0 where
   pub each : (k : ℕ) (request : Request) (answer : Answer) → slice_get served k ≡ Some (request, answer)
       → IsRepliedTo first now request answer
-
--- sessions are marked always or never, and the one that is marked now goes on from the one before
-abbrev pub GoesOnMarked : Option Sessioned → Option Sessioned → Type 0
-GoesOnMarked None None = Unit {0}
-GoesOnMarked None (Some now) = ⊥
-GoesOnMarked (Some before) None = ⊥
-GoesOnMarked (Some before) (Some now) = GoesOnLater before now

@@ -1,30 +1,25 @@
 //! What each request is answered.
 
-ghost use Rattle.std.specs.Prelude.{◌≡◌, ◌≤◌, IfErr, IfSome, IsErr, IsNone, IsTrue};
-ghost use Rattle.desk.specs.Requests.{answer_where_done, is_answer_to, is_creation_answer};
-ghost use Rattle.desk.specs.Requests.{is_list_answer, NamesNoClient};
-ghost use Rattle.desk.specs.Telling.{GoesOnMarked, IsRepliedTo};
-ghost use Rattle.workers.specs.Refusals.{is_told_refusal};
+ghost use Rattle.std.specs.Prelude.{◌≡◌};
+ghost use Rattle.desk.specs.Answering.{answer_as, creation_on_wire, IsAnsweredBetween, IsCreationAnswer};
+ghost use Rattle.desk.specs.Answering.{IsCrashAt, IsRecoveryAt, IsToldOf, Says};
 ghost use Rattle.wire.specs.declared.answer.Answer.{Answer as AnyAnswer};
+ghost use Rattle.wire.specs.declared.answer.Answer.TheVariants.{Crashed, Queues, Ready};
+ghost use Rattle.workers.specs.Moments.{GoesOnLater};
+ghost use Rattle.workers.specs.Seen.{IsListing};
 
 use crate::calls::nameless;
 use crate::counter::Counter;
 use directory::Name;
-use seating::Seating;
 use std::sync::Wait;
 use wire::{Answer, Request};
 use words::{Kind, Refusal, Told};
-use workers::{Created, Naming, Shared};
+use workers::{Created, Marked, Naming, Shared};
 
-/// What a connection is told of a queue to be created.
-fn create<J: Naming, R: Wait>(rt: &R, shared: &Shared<J>, queue: Option<Name>, kind: Kind) -> Answer
-    ensures fits { IsTrue (is_creation_answer result) }
-    ensures nameless { IsNone queue → result ≡ AnyAnswer.Refused Refusal.BadName }
+/// What a connection is told of a creation.
+fn on_wire(created: Created) -> Answer
+    ensures { result ≡ creation_on_wire created }
 {
-    let Some(name) = queue else {
-        return Answer::Refused(Refusal::BadName);
-    };
-    let (created, _receipt) = shared.create(rt, name.as_bytes(), kind);
     match created {
         Created::Queue(slot) => Answer::Created(slot),
         Created::Refused(refusal) => Answer::Refused(refusal),
@@ -32,42 +27,39 @@ fn create<J: Naming, R: Wait>(rt: &R, shared: &Shared<J>, queue: Option<Name>, k
     }
 }
 
-/// All queues.
-fn list<J: Naming, R: Wait>(rt: &R, shared: &Shared<J>) -> Answer
-    ensures { IsTrue (is_list_answer result) }
-{
-    match shared.list(rt) {
-        Ok(places) => Answer::Queues(places),
-        Err(refusal) => Answer::Refused(refusal),
-    }
-}
-
-/// What the client was last told in a queue. It is refused where there is no such client (NoClient), while the broker
-/// recovers (NotReady), and where there is no such queue (NoQueue).
-fn told<J: Naming, R: Wait>(
+/// What a connection is told of a queue to be created.
+fn create<J: Naming, R: Wait>(
     rt: &R,
     shared: &Shared<J>,
-    seats: &Seating<J>,
-    number: u64,
+    before: Marked<J>,
     queue: Option<Name>,
-) -> Result<Told, Refusal>
-    ensures client { J.clients ≤ number → result ≡ Err Refusal.NoClient }
-    ensures nameless { IsNone queue → IsErr result }
-    ensures errors { IfErr result (λ refusal. IsTrue (is_told_refusal refusal)) }
+    kind: Kind,
+) -> (Marked<J>, Answer)
+    ensures is { IsCreationAnswer result.0.broker queue (λ name. record { name = name; kind = kind }) result.1 }
+    ensures later { GoesOnLater before result.0 }
 {
-    let Some(client) = seats.client(number) else {
-        return Err(Refusal::NoClient);
-    };
     let Some(name) = queue else {
-        return Err(nameless(rt, shared));
+        return (before, Answer::Refused(Refusal::BadName));
     };
-    let (told, _receipt) = shared.told(rt, client, &name);
-    told
+    let (marked, created) = shared.create(rt, name.as_bytes(), kind, before);
+    (marked, on_wire(created))
+}
+
+/// All queues.
+fn list<J: Naming, R: Wait>(rt: &R, shared: &Shared<J>, before: Marked<J>) -> (Marked<J>, Answer)
+    ensures is { Says Queues result.1 (IsListing result.0.broker) }
+    ensures later { GoesOnLater before result.0 }
+{
+    let (marked, listed) = shared.list(rt, before);
+    match listed {
+        Ok(places) => (marked, Answer::Queues(places)),
+        Err(refusal) => (marked, Answer::Refused(refusal)),
+    }
 }
 
 /// The answer, where what was asked for was done.
 fn done(outcome: Result<(), Refusal>, answer: Answer) -> Answer
-    ensures { result ≡ answer_where_done outcome answer }
+    ensures { result ≡ answer_as (λ done. answer) outcome }
 {
     match outcome {
         Ok(()) => answer,
@@ -76,38 +68,75 @@ fn done(outcome: Result<(), Refusal>, answer: Answer) -> Answer
 }
 
 impl<J: Naming> Counter<'_, J> {
-    /// What a request is answered, once it was made.
-    #[tactic(auto, using(crate::proofs::Telling::marked_itself))]
-    pub(crate) fn answer_to<R: Wait>(&mut self, rt: &R, request: Request) -> Answer
-        ensures fits { IsTrue (is_answer_to request result) }
-        ensures client { NamesNoClient J.clients request → result ≡ AnyAnswer.Refused Refusal.NoClient }
-        ensures told { IfSome self.new.marked (λ now. IsRepliedTo J.first now request result) }
-        ensures later { GoesOnMarked self.old.marked self.new.marked }
+    /// What the client was last told in a queue. It is refused where there is no such client (NoClient), while the
+    /// broker recovers (NotReady), and where there is no such queue (NoQueue).
+    fn told<R: Wait>(
+        &self,
+        rt: &R,
+        before: Marked<J>,
+        number: u64,
+        queue: Option<Name>,
+    ) -> (Marked<J>, Result<Told, Refusal>)
+        ensures is { IsToldOf J.clients result.0.broker number queue result.1 }
+        ensures later { GoesOnLater before result.0 }
+    {
+        let Some(client) = self.seats.client(number) else {
+            return (before, Err(Refusal::NoClient));
+        };
+        let Some(name) = queue else {
+            let (marked, refusal) = nameless(rt, self.shared, before);
+            return (marked, Err(refusal));
+        };
+        self.shared.told(rt, client, &name, before)
+    }
+
+    /// The whole system stops.
+    fn crash<R: Wait>(&self, rt: &R, before: Marked<J>) -> (Marked<J>, Answer)
+        ensures is { Says (λ done. Crashed) result.1 (IsCrashAt result.0.broker) }
+        ensures later { GoesOnLater before result.0 }
+    {
+        let _work = self.seats.at_work(rt);
+        let (marked, stopped) = self.seats.crash(rt, self.shared, before);
+        (marked, done(stopped, Answer::Crashed))
+    }
+
+    /// The broker recovers until it is ready.
+    fn recover<R: Wait>(&self, rt: &R, before: Marked<J>) -> (Marked<J>, Answer)
+        ensures is { Says (λ done. Ready) result.1 (IsRecoveryAt result.0.broker) }
+        ensures later { GoesOnLater before result.0 }
+    {
+        let _work = self.seats.at_work(rt);
+        let (marked, recovered) = self.shared.recover(rt, before);
+        (marked, done(recovered, Answer::Ready))
+    }
+
+    /// What a request is answered, once it was made, and a mark of the session, in the place of an earlier one.
+    pub(crate) fn answer_to<R: Wait>(
+        &self,
+        rt: &R,
+        before: Marked<J>,
+        request: Request,
+    ) -> (Marked<J>, Answer)
+        ensures { IsAnsweredBetween J.clients J.first before result.0 request result.1 }
     {
         match request {
             Request::Create { queue, kind } => {
                 let _work = self.seats.at_work(rt);
-                create(rt, self.shared, queue, kind)
+                create(rt, self.shared, before, queue, kind)
             }
-            Request::List => list(rt, self.shared),
-            Request::Put { client, .. } => self.call(rt, client, request),
-            Request::Take { client, .. } => self.call(rt, client, request),
+            Request::List => list(rt, self.shared, before),
+            Request::Put { client, .. } => self.call(rt, before, client, request),
+            Request::Take { client, .. } => self.call(rt, before, client, request),
             Request::Told { client, queue } => {
-                match told(rt, self.shared, self.seats, client, queue) {
-                    Ok(told) => Answer::Told(told),
-                    Err(refusal) => Answer::Refused(refusal),
+                let (marked, told) = self.told(rt, before, client, queue);
+                match told {
+                    Ok(told) => (marked, Answer::Told(told)),
+                    Err(refusal) => (marked, Answer::Refused(refusal)),
                 }
             }
-            Request::Crash => {
-                let _work = self.seats.at_work(rt);
-                done(self.seats.crash(rt, self.shared), Answer::Crashed)
-            }
-            Request::Recover => {
-                let _work = self.seats.at_work(rt);
-                let (recovered, _receipt) = self.shared.recover(rt);
-                done(recovered, Answer::Ready)
-            }
-            Request::Stop => Answer::Stopping,
+            Request::Crash => self.crash(rt, before),
+            Request::Recover => self.recover(rt, before),
+            Request::Stop => (before, Answer::Stopping),
         }
     }
 }

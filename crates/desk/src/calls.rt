@@ -1,17 +1,18 @@
 //! Puts and takes, each with its client's seat.
 
-ghost use Rattle.std.specs.Prelude.{◌≡◌, IfErr, IfNone, IfSome, IsNone, IsTrue, OnErr, OnOk, true};
+ghost use Rattle.std.specs.Prelude.{◌≡◌, IfErr, IfNone, IfSome, OnErr, OnOk, true};
+ghost use Rattle.desk.specs.Answering.{IsCallAnswer, IsWhyNameless};
 ghost use Rattle.desk.specs.Calls.{answer_on_wire, asked_in, AnswersAsked, AnswersCall, AnswersSettled};
-ghost use Rattle.desk.specs.Calls.{IsOfNoName, IsSettled, why_nameless};
+ghost use Rattle.desk.specs.Calls.{IsSettled, why_nameless};
 ghost use Rattle.wire.specs.declared.answer.Answer.{Answer as AnyAnswer};
-ghost use Rattle.desk.specs.Requests.{is_call_answer, is_nameless_refusal};
 ghost use Rattle.workers.specs.Lists.{ends_open};
+ghost use Rattle.workers.specs.Moments.{GoesOnLater};
 
 use directory::{Name, Places};
 use std::sync::Wait;
 use wire::{Answer, Request};
 use words::{Call, Refusal};
-use workers::{Naming, OpenGate, Seat, Shared};
+use workers::{Marked, Naming, OpenGate, Seat, Shared};
 
 /// A put or a take, as it is asked for: in the queue of this name, and with a number in a log queue. A queue that is
 /// none is a text that is no name.
@@ -70,10 +71,16 @@ fn why_nameless(listed: Result<Places, Refusal>) -> Refusal
 }
 
 /// Why a queue of no name is not found: it is not there (NoQueue), or the broker recovers (NotReady).
-pub(crate) fn nameless<J: Naming, R: Wait>(rt: &R, shared: &Shared<J>) -> Refusal
-    ensures { IsOfNoName result }
+pub(crate) fn nameless<J: Naming, R: Wait>(
+    rt: &R,
+    shared: &Shared<J>,
+    before: Marked<J>,
+) -> (Marked<J>, Refusal)
+    ensures why { IsWhyNameless result.0.broker result.1 }
+    ensures later { GoesOnLater before result.0 }
 {
-    why_nameless(shared.list(rt))
+    let (marked, listed) = shared.list(rt, before);
+    (marked, why_nameless(listed))
 }
 
 /// The seat with no open call: one that was left Unfinished is finished first. It is refused where that was refused
@@ -103,49 +110,51 @@ fn settled<J: Naming, R: Wait>(
 fn call_at_seat<J: Naming, R: Wait>(
     rt: &R,
     shared: &Shared<J>,
+    before: Marked<J>,
     seat: Seat<J>,
     asked: Asked,
-) -> (Seat<J>, Answer)
+) -> (Seat<J>, Marked<J>, Answer)
     ensures client { result.0.client ≡ seat.client }
-    ensures entry { AnswersCall J.first seat.list.items asked result.1 result.0.list.items }
-    ensures settled { AnswersSettled J.first seat.client asked result.1 }
-    ensures nameless { IsNone asked.queue → IsTrue (is_nameless_refusal result.1) }
-    ensures fits { IsTrue (is_call_answer result.1) }
+    ensures entry { AnswersCall J.first seat.list.items asked result.2 result.0.list.items }
+    ensures settled { AnswersSettled J.first seat.client asked result.2 }
+    ensures is { IsCallAnswer J.first result.1 seat.client asked result.2 }
+    ensures later { GoesOnLater before result.1 }
 {
     let (seat, finished) = settled(rt, shared, seat);
     if let Err(refusal) = finished {
-        return (seat, Answer::Refused(refusal));
+        return (seat, before, Answer::Refused(refusal));
     }
     let Some(name) = asked.queue else {
-        return (seat, Answer::Refused(nameless(rt, shared)));
+        let (marked, refusal) = nameless(rt, shared, before);
+        return (seat, marked, Answer::Refused(refusal));
     };
     let Asked { number, call, .. } = asked;
     let request = workers::Request { name, number, call };
-    let (seat, answer) = shared.call(rt, seat, request, &OpenGate);
-    (seat, on_wire(answer))
+    let (seat, marked, answer) = shared.call(rt, seat, request, &OpenGate, before);
+    (seat, marked, on_wire(answer))
 }
 
 /// Answers a put or a take with its client's seat. A call of the client that was left Unfinished is finished first. It
 /// is refused where that was refused memory once more (Busy), and as [`Shared::call`] is; then the seat remembers none
 /// more. A number that was settled when the seats were given has its reply, or is Old. Another request is none that a
-/// seat answers (BadRequest).
+/// seat answers (BadRequest). With the answer comes a mark of the session that says so, in the place of an earlier one.
 pub fn answer_at_seat<J: Naming, R: Wait>(
     rt: &R,
     shared: &Shared<J>,
+    before: Marked<J>,
     seat: Seat<J>,
     request: Request,
-) -> (Seat<J>, Answer)
+) -> (Seat<J>, Marked<J>, Answer)
     ensures client { result.0.client ≡ seat.client }
-    ensures entry { AnswersAsked J.first seat.list.items request result.1 result.0.list.items }
-    ensures settled { IfSome (asked_in request) (λ asked. AnswersSettled J.first seat.client asked result.1) }
-    ensures nameless { IfSome (asked_in request) (λ asked.
-        IsNone asked.queue → IsTrue (is_nameless_refusal result.1)) }
-    ensures fits { IfSome (asked_in request) (λ asked. IsTrue (is_call_answer result.1)) }
-    ensures other { IfNone (asked_in request) (result.1 ≡ AnyAnswer.Refused Refusal.BadRequest) }
+    ensures entry { AnswersAsked J.first seat.list.items request result.2 result.0.list.items }
+    ensures settled { IfSome (asked_in request) (λ asked. AnswersSettled J.first seat.client asked result.2) }
+    ensures is { IfSome (asked_in request) (λ asked. IsCallAnswer J.first result.1 seat.client asked result.2) }
+    ensures later { GoesOnLater before result.1 }
+    ensures other { IfNone (asked_in request) (result.2 ≡ AnyAnswer.Refused Refusal.BadRequest) }
     ensures other_list { IfNone (asked_in request) (result.0.list.items ≡ seat.list.items) }
 {
     match asked_in(request) {
-        Some(asked) => call_at_seat(rt, shared, seat, asked),
-        None => (seat, Answer::Refused(Refusal::BadRequest)),
+        Some(asked) => call_at_seat(rt, shared, before, seat, asked),
+        None => (seat, before, Answer::Refused(Refusal::BadRequest)),
     }
 }

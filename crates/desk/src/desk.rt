@@ -2,8 +2,9 @@
 
 ghost use Rattle.std.specs.Prelude.{◌≡◌, [], IfOk, refl};
 ghost use Rattle.chronicle.specs.Chronicled.{entries};
+ghost use Rattle.desk.specs.Answering.{IsServedAtMark};
 ghost use Rattle.desk.specs.Requests.{is_stop_answer};
-ghost use Rattle.desk.specs.Serving.{has_stopped, AreAnswered};
+ghost use Rattle.desk.specs.Serving.{has_stopped};
 
 use crate::counter::Counter;
 use chronicle::Chronicle;
@@ -14,7 +15,7 @@ use seating::Seating;
 use std::alloc::{AllocError, Global};
 use std::sync::Wait;
 use wire::{Answer, Request};
-use workers::{Naming, Shared};
+use workers::{Marked, Naming, Shared};
 
 /// Whether the answer is that the server stops.
 fn is_stopping(answer: &Answer) -> bool
@@ -31,13 +32,14 @@ pub struct BrokerDesk<'a, J: Naming> {
     /// The requests that were made, with their answers, in order; and those of them that are settled.
     pub served: Chronicle<(Request, Answer)>,
     stopped: bool,
-    pub ghost answered: { AreAnswered J.clients (entries served) },
+    pub ghost turn: { IsServedAtMark J.clients J.first (entries served) counter.marked },
     ghost stops: { stopped ≡ has_stopped (entries served) },
 }
 
 impl<'a, J: Naming> BrokerDesk<'a, J> {
     /// A desk that has served nothing. It takes memory for one word, and none for what it serves.
-    pub fn new(
+    pub fn new<R: Wait>(
+        rt: &R,
         alloc: Global,
         shared: &'a Shared<J>,
         seats: &'a Seating<J>,
@@ -45,11 +47,20 @@ impl<'a, J: Naming> BrokerDesk<'a, J> {
         ensures { IfOk result (λ desk. entries desk.served ≡ []) }
     {
         let served = Chronicle::begin(alloc)?;
+        let marked = shared.mark_now(rt);
         Ok(BrokerDesk {
-            counter: Counter::new(shared, seats, None),
+            counter: Counter::new(shared, seats, marked),
             served,
             stopped: false,
         })
+    }
+
+    /// What it has served: each request was answered in turn, by what the session was then, up to the session as it was
+    /// marked last. That mark is handed out.
+    pub fn into_mark(self) -> Option<Marked<J>>
+        ensures { IsServedAtMark J.clients J.first (entries self.served) result }
+    {
+        self.counter.marked
     }
 
     /// Whether it has accepted a stop, after which nothing is served.
@@ -68,7 +79,7 @@ impl<J: Naming> Desk for BrokerDesk<'_, J> {
     ghost failures = { λ _. 0 };
 
     fn answer<R: Wait>(&mut self, rt: &R, request: Request) -> Answer {
-        let made = (copied(&request), self.counter.answer_to(rt, request));
+        let made = (copied(&request), self.counter.answer(rt, request));
         self.stopped = is_stopping(&made.1);
         self.served.note(&made);
         made.1

@@ -2,8 +2,7 @@
 
 ghost use Rattle.std.specs.Prelude.{◌≡◌, ◌++◌, ◌∷◌, [], IfOk, IfSome, None, Some};
 ghost use Rattle.chronicle.specs.Chronicled.{entries};
-ghost use Rattle.desk.specs.Serving.{AreAnswered};
-ghost use Rattle.desk.specs.Telling.{AreReplied};
+ghost use Rattle.desk.specs.Answering.{IsServedAtMark, IsServedInTurn};
 
 use crate::counter::Counter;
 use chronicle::Chronicle;
@@ -15,8 +14,7 @@ use std::sync::Wait;
 use wire::{Answer, Request};
 use workers::{Assured, Marked, Naming, Shared};
 
-/// Where the requests of one connection are answered, by a broker that connections share, and the session is marked
-/// behind each put and take. Whoever makes the session last says so with a token ([`MarkingDesk::assure`]).
+/// Where the requests of one connection are answered, by a broker that connections share. Whoever makes the session last says so with a token ([`MarkingDesk::assure`]).
 #[derive(Drop)]
 pub struct MarkingDesk<'a, J: Naming> {
     counter: Counter<'a, J>,
@@ -52,19 +50,17 @@ impl<'a, J: Naming> MarkingDesk<'a, J> {
         let served = Chronicle::begin(alloc)?;
         let marked = shared.mark_now(rt);
         Ok(MarkingDesk {
-            counter: Counter::new(shared, seats, Some(marked)),
+            counter: Counter::new(shared, seats, marked),
             served,
             assured: None,
         })
     }
 
-    /// What it has answered. Each reply to a put or a take stands in its client's list at a session from which the one
-    /// goes on that was marked last. So does each reply that is settled for the session of the last token. Without a
-    /// token nothing is settled.
+    /// What it has answered: each request in turn, by what the session was then, up to the session as it was marked last.
+    /// So it is of what is settled, up to the session of the last token. Without a token nothing is settled.
     pub fn has_told(&self)
-        ensures answered { AreAnswered J.clients (entries self.now.served) }
-        ensures told { IfSome self.now.marked (λ now. AreReplied J.first now (entries self.now.served)) }
-        ensures lasting { IfSome self.now.assured (λ now. AreReplied J.first now self.now.served.settled) }
+        ensures turn { IsServedAtMark J.clients J.first (entries self.now.served) self.now.marked }
+        ensures lasting { IfSome self.now.assured (IsServedInTurn J.clients J.first self.now.served.settled) }
         ensures known { self.now.assured ≡ None → self.now.served.settled ≡ [] }
     {
         // A look at a field brings in the invariant.
@@ -85,23 +81,23 @@ impl<'a, J: Naming> MarkingDesk<'a, J> {
         ensures settled { self.new.served.settled ≡ self.old.served.settled }
         ensures assured { self.new.assured ≡ self.old.assured }
     {
-        let made = (copied(&request), self.counter.answer_to(rt, request));
+        let made = (copied(&request), self.counter.answer(rt, request));
         self.served.note(&made);
         made.1
     }
 
-    /// A mark of the session as it is now, at which all its replies stand: whoever makes that session last may say so.
+    /// A mark of the session as it is now, up to which all was answered: whoever makes that session last may say so.
     pub fn mark<R: Wait>(&mut self, rt: &R) -> Marked<J>
-        ensures stand { AreReplied J.first result (entries self.new.served) }
+        ensures stand { IsServedInTurn J.clients J.first (entries self.new.served) result }
         ensures served { self.new.served ≡ self.old.served }
         ensures assured { self.new.assured ≡ self.old.assured }
     {
         self.counter.mark_now(rt)
     }
 
-    /// All that it has served is settled, since the token's session lasts, at which all its replies stand.
+    /// All that it has served is settled, since the token's session lasts, up to which all was answered.
     pub fn assure(&mut self, assured: Assured<J>)
-        requires { AreReplied J.first assured (entries self.old.served) }
+        requires { IsServedInTurn J.clients J.first (entries self.old.served) assured }
         ensures served { entries self.new.served ≡ entries self.old.served }
         ensures settled { self.new.served.settled ≡ entries self.old.served }
         ensures assured { self.new.assured ≡ Some assured }

@@ -1,13 +1,12 @@
 //! Puts and takes, of which one that finds no room is made once more in fresh records.
 
-ghost use Rattle.std.specs.Prelude.{◌≡◌, ◌<◌, ◌≤◌, IfErr, IfOk, IfSome, IsNone, IsTrue};
-ghost use Rattle.desk.specs.Calls.{asked_in, IsNamelessAnswer};
-ghost use Rattle.desk.specs.Requests.{is_call_answer, is_no_room};
-ghost use Rattle.desk.specs.Telling.{GoesOnMarked, IsRepliedAtMark};
+ghost use Rattle.std.specs.Prelude.{◌≡◌, ◌<◌, IfErr, IfOk, IfSome, IsTrue};
+ghost use Rattle.desk.specs.Answering.{IsCallAnswer, IsCalledBetween, IsCalledOf};
+ghost use Rattle.desk.specs.Calls.{asked_in};
+ghost use Rattle.desk.specs.Requests.{is_no_room};
 ghost use Rattle.desk.specs.Worth.{IsWorthIt};
-ghost use Rattle.wire.specs.declared.answer.Answer.{Answer as AnyAnswer};
-ghost use Rattle.workers.specs.Refusals.{is_call_refusal};
-ghost use Rattle.workers.specs.declared.deeds.Deed.{Deed as AnyDeed};
+ghost use Rattle.workers.specs.Moments.{GoesOnLater};
+ghost use Rattle.workers.specs.Seen.{IsRenewedBetween};
 ghost use Rattle.workers.specs.Usage.{IsUsageOf};
 
 use crate::calls::{Asked, answer_at_seat, asked_in};
@@ -18,7 +17,7 @@ use events::copied;
 use std::sync::Wait;
 use wire::{Answer, Request};
 use words::{Client, Refusal};
-use workers::{Naming, Receipt, Usage};
+use workers::{Marked, Naming, Usage};
 
 /// Whether a call found no room.
 fn is_no_room(answer: &Answer) -> bool
@@ -27,70 +26,65 @@ fn is_no_room(answer: &Answer) -> bool
     matches!(answer, Answer::Refused(Refusal::NoRoom))
 }
 
-/// A queue that began in fresh records for a call: its slot, what it held before, and the receipt. It is no `Drop`, and
-/// only [`Renewed::call`] takes it: the call is made once more.
-struct Renewed<J: Naming> {
+/// A queue that is to begin in fresh records, and what it holds. It is no `Drop`, and only [`Counter::renewed_for`] takes
+/// it: the queue begins so.
+struct Worth {
     slot: SlotId,
     held: Usage,
-    receipt: Receipt<J>,
 }
 
-impl<J: Naming> Renewed<J> {
+/// A queue that began in fresh records for a call, and what it held before. It is no `Drop`, and only [`Renewed::call`]
+/// takes it: the call is made once more.
+struct Renewed {
+    slot: SlotId,
+    held: Usage,
+}
+
+impl Renewed {
     /// The call that found no room before.
-    fn call<R: Wait>(
+    fn call<J: Naming, R: Wait>(
         self,
         rt: &R,
-        counter: &mut Counter<'_, J>,
+        counter: &Counter<'_, J>,
+        before: Marked<J>,
         client: Client,
         request: &Request,
-    ) -> Answer
-        ensures fits { IfSome (asked_in request.now) (λ asked. IsTrue (is_call_answer result)) }
-        ensures nameless { IsNamelessAnswer request.now result }
-        ensures told { IsRepliedAtMark J.first counter.new.marked client request.now result }
-        ensures later { GoesOnMarked counter.old.marked counter.new.marked }
+    ) -> (Marked<J>, Answer)
+        ensures is { IfSome (asked_in request.now) (λ asked. IsCallAnswer J.first result.0 client asked result.1) }
+        ensures later { GoesOnLater before result.0 }
     {
-        let Renewed {
-            slot: _,
-            held: _,
-            receipt: _,
-        } = self;
-        counter.call_once(rt, client, request)
+        let Renewed { slot: _, held: _ } = self;
+        counter.call_once(rt, before, client, request)
     }
 }
 
 impl<J: Naming> Counter<'_, J> {
     /// A put or a take of this client, made once. It is refused where another connection is using the client's seat
     /// (Busy), and as [`answer_at_seat`] is.
-    fn call_once<R: Wait>(&mut self, rt: &R, client: Client, request: &Request) -> Answer
-        ensures fits { IfSome (asked_in request.now) (λ asked. IsTrue (is_call_answer result)) }
-        ensures nameless { IsNamelessAnswer request.now result }
-        ensures told { IsRepliedAtMark J.first self.new.marked client request.now result }
-        ensures later { GoesOnMarked self.old.marked self.new.marked }
-    {
-        let Some((owed, seat)) = self.seats.take(rt, client) else {
-            return Answer::Refused(Refusal::Busy);
-        };
-        let (seat, answer) = answer_at_seat(rt, self.shared, seat, copied(request));
-        let seat = self.mark(rt, seat);
-        self.seats.put(rt, owed, seat);
-        answer
-    }
-
-    /// The queue of a call that found no room begins in fresh records, if that is worth it: else it is refused as the
-    /// call was (NoRoom). It is refused also as [`workers::Shared::find`], [`workers::Shared::usage`] and
-    /// [`crate::Seating::renew`] are.
-    fn renewed_for<R: Wait>(
+    fn call_once<R: Wait>(
         &self,
         rt: &R,
+        before: Marked<J>,
         client: Client,
-        asked: Asked,
-    ) -> Result<Renewed<J>, Refusal>
+        request: &Request,
+    ) -> (Marked<J>, Answer)
+        ensures is { IfSome (asked_in request.now) (λ asked. IsCallAnswer J.first result.0 client asked result.1) }
+        ensures later { GoesOnLater before result.0 }
+    {
+        let Some((owed, seat)) = self.seats.take(rt, client) else {
+            return (before, Answer::Refused(Refusal::Busy));
+        };
+        let (seat, marked, answer) = answer_at_seat(rt, self.shared, before, seat, copied(request));
+        self.seats.put(rt, owed, seat);
+        (marked, answer)
+    }
+
+    /// The queue of a call that found no room, if it is worth it that this begins in fresh records: else it is refused as
+    /// the call was (NoRoom). It is refused also as [`workers::Shared::find`] and [`workers::Shared::usage`] are.
+    fn worth_of<R: Wait>(&self, rt: &R, client: Client, asked: Asked) -> Result<Worth, Refusal>
         requires { client.0 < J.clients }
-        ensures worth { IfOk result (λ renewed. IsWorthIt renewed.held client asked.call) }
-        ensures counts { IfOk result (λ renewed. IsUsageOf J.clients J.first renewed.held) }
-        ensures deed { IfOk result (λ renewed. renewed.receipt.deed ≡ AnyDeed.Renewal renewed.slot) }
-        ensures nameless { IsNone asked.queue → result ≡ Err Refusal.NoQueue }
-        ensures errors { IfErr result (λ refusal. IsTrue (is_call_refusal refusal)) }
+        ensures worth { IfOk result (λ worth. IsWorthIt worth.held client asked.call) }
+        ensures counts { IfOk result (λ worth. IsUsageOf J.clients J.first worth.held) }
     {
         let Some(name) = asked.queue else {
             return Err(Refusal::NoQueue);
@@ -102,46 +96,74 @@ impl<J: Naming> Counter<'_, J> {
         if !is_worth_it(held, client, &asked.call) {
             return Err(Refusal::NoRoom);
         }
-        let receipt = self.seats.renew(rt, self.shared, slot)?;
-        Ok(Renewed {
-            slot,
-            held,
-            receipt,
-        })
+        Ok(Worth { slot, held })
+    }
+
+    /// That queue begins in fresh records. It is refused also as [`seating::Seating::renew`] is.
+    fn renewed_for<R: Wait>(
+        &self,
+        rt: &R,
+        before: Marked<J>,
+        client: Client,
+        asked: Asked,
+    ) -> (Marked<J>, Result<Renewed, Refusal>)
+        requires { client.0 < J.clients }
+        ensures worth { IfOk result.1 (λ renewed. IsWorthIt renewed.held client asked.call) }
+        ensures counts { IfOk result.1 (λ renewed. IsUsageOf J.clients J.first renewed.held) }
+        ensures renewed { IfOk result.1 (λ renewed. IsRenewedBetween before result.0 renewed.slot.0) }
+        ensures later { GoesOnLater before result.0 }
+    {
+        let Worth { slot, held } = match self.worth_of(rt, client, asked) {
+            Ok(worth) => worth,
+            Err(refusal) => return (before, Err(refusal)),
+        };
+        let (marked, renewed) = self.seats.renew(rt, self.shared, slot, before);
+        match renewed {
+            Ok(()) => (marked, Ok(Renewed { slot, held })),
+            Err(refusal) => (marked, Err(refusal)),
+        }
     }
 
     /// A put or a take that found no room while others were at work: nobody is any more. If it still finds none, its
     /// queue is renewed, and it is made once more.
-    fn call_at_rest<R: Wait>(&mut self, rt: &R, client: Client, request: &Request) -> Answer
+    fn call_at_rest<R: Wait>(
+        &self,
+        rt: &R,
+        before: Marked<J>,
+        client: Client,
+        request: &Request,
+    ) -> (Marked<J>, Answer)
         requires { client.0 < J.clients }
-        ensures fits { IfSome (asked_in request.now) (λ asked. IsTrue (is_call_answer result)) }
-        ensures nameless { IsNamelessAnswer request.now result }
-        ensures told { IsRepliedAtMark J.first self.new.marked client request.now result }
-        ensures later { GoesOnMarked self.old.marked self.new.marked }
+        ensures { IsCalledBetween J.first before result.0 client (asked_in request.now) result.1 }
     {
         // Another connection may have renewed the queue meanwhile.
-        let answer = self.call_once(rt, client, request);
+        let (marked, answer) = self.call_once(rt, before, client, request);
         if !is_no_room(&answer) {
-            return answer;
+            return (marked, answer);
         }
         let Some(asked) = asked_in(copied(request)) else {
-            return answer;
+            return (marked, answer);
         };
-        match self.renewed_for(rt, client, asked) {
-            Ok(renewed) => renewed.call(rt, self, client, request),
-            Err(refusal) => Answer::Refused(refusal),
+        let (marked, renewed) = self.renewed_for(rt, marked, client, asked);
+        match renewed {
+            Ok(renewed) => renewed.call(rt, self, marked, client, request),
+            Err(refusal) => (marked, Answer::Refused(refusal)),
         }
     }
 
     /// A put or a take while others are at work.
-    fn call_at_work<R: Wait>(&mut self, rt: &R, client: Client, request: &Request) -> Answer
-        ensures fits { IfSome (asked_in request.now) (λ asked. IsTrue (is_call_answer result)) }
-        ensures nameless { IsNamelessAnswer request.now result }
-        ensures told { IsRepliedAtMark J.first self.new.marked client request.now result }
-        ensures later { GoesOnMarked self.old.marked self.new.marked }
+    fn call_at_work<R: Wait>(
+        &self,
+        rt: &R,
+        before: Marked<J>,
+        client: Client,
+        request: &Request,
+    ) -> (Marked<J>, Answer)
+        ensures is { IfSome (asked_in request.now) (λ asked. IsCallAnswer J.first result.0 client asked result.1) }
+        ensures later { GoesOnLater before result.0 }
     {
         let _work = self.seats.at_work(rt);
-        self.call_once(rt, client, request)
+        self.call_once(rt, before, client, request)
     }
 
     /// A put or a take of a client. It is refused where there is no such client (NoClient), where another connection is
@@ -149,23 +171,25 @@ impl<J: Naming> Counter<'_, J> {
     /// waits until no connection is at work, its queue is renewed if that is worth it, and it is made once more. Then it
     /// is refused also for want of memory for the renewal (NoMemory), and where a client's call could not be finished
     /// (Busy).
-    pub(crate) fn call<R: Wait>(&mut self, rt: &R, number: u64, request: Request) -> Answer
-        ensures fits { IfSome (asked_in request) (λ asked. IsTrue (is_call_answer result)) }
-        ensures nameless { IsNamelessAnswer request result }
-        ensures client { J.clients ≤ number → result ≡ AnyAnswer.Refused Refusal.NoClient }
-        ensures told { IsRepliedAtMark J.first self.new.marked (record { 0 = number }) request result }
-        ensures later { GoesOnMarked self.old.marked self.new.marked }
+    pub(crate) fn call<R: Wait>(
+        &self,
+        rt: &R,
+        before: Marked<J>,
+        number: u64,
+        request: Request,
+    ) -> (Marked<J>, Answer)
+        ensures { IsCalledOf J.clients J.first before result.0 number (asked_in request) result.1 }
     {
         let Some(client) = self.seats.client(number) else {
-            return Answer::Refused(Refusal::NoClient);
+            return (before, Answer::Refused(Refusal::NoClient));
         };
-        let answer = self.call_at_work(rt, client, &request);
+        let (marked, answer) = self.call_at_work(rt, before, client, &request);
         if !is_no_room(&answer) {
-            return answer;
+            return (marked, answer);
         }
         let Some(_rest) = self.seats.at_rest(rt) else {
-            return answer;
+            return (marked, answer);
         };
-        self.call_at_rest(rt, client, &request)
+        self.call_at_rest(rt, marked, client, &request)
     }
 }

@@ -1,10 +1,11 @@
 //! Seats that no connection is using, and the operator.
 
 ghost use Rattle.std.specs.Prelude.{◌≡◌, ◌≤◌, ◌↔◌, ◌⊎◌, length, slice_index_or, slice_set};
-ghost use Rattle.std.specs.Prelude.{IfErr, IfOk, IfSome, IsNone, IsSome};
+ghost use Rattle.std.specs.Prelude.{IfErr, IfOk, IfSome, IsNone, IsSome, OnOk};
+ghost use Rattle.workers.specs.Moments.{GoesOnLater};
 ghost use Rattle.workers.specs.Refusals.{IsWhyNotRenewed};
 ghost use Rattle.workers.specs.Seats.{AreAllInOrder};
-ghost use Rattle.workers.specs.declared.deeds.Deed.{Deed as AnyDeed};
+ghost use Rattle.workers.specs.Seen.{IsRenewedBetween};
 ghost use Rattle.seating.specs.Seating.{AreBack, AreInPlaces};
 
 use arena::SlotId;
@@ -13,7 +14,7 @@ use std::marker::Model;
 use std::sync::{Mutex, RwLock, RwLockReadGuard, RwLockWriteGuard, Wait};
 use waiting::lock;
 use words::{Client, Refusal};
-use workers::{Naming, OpenGate, Operator, Receipt, Seat, Shared};
+use workers::{Marked, Naming, OpenGate, Operator, Seat, Shared};
 
 /// Each client's seat in the client's place, or nothing there while a connection is using it.
 #[derive(Drop)]
@@ -130,16 +131,23 @@ impl<J: Naming> Post<J> {
         }
     }
 
-    /// The whole system stops.
-    fn crash<R: Wait>(&mut self, rt: &R, shared: &Shared<J>) -> Result<(), Refusal>
-        ensures { IfErr result (λ refusal. refusal ≡ Refusal.NoMemory) }
+    /// The whole system stops, and the session is marked, in the place of an earlier mark.
+    fn crash<R: Wait>(
+        &mut self,
+        rt: &R,
+        shared: &Shared<J>,
+        before: Marked<J>,
+    ) -> (Marked<J>, Result<(), Refusal>)
+        ensures down { OnOk result.1 (IsSome result.0.broker.recovery) }
+        ensures errors { IfErr result.1 (λ refusal. refusal ≡ Refusal.NoMemory) }
+        ensures later { GoesOnLater before result.0 }
     {
         let Some(operator) = self.operator.take() else {
             unreachable!()
         };
-        let (operator, stopped) = shared.crash(rt, operator);
+        let (operator, marked, stopped) = shared.crash(rt, operator, before);
         self.operator = Some(operator);
-        stopped
+        (marked, stopped)
     }
 }
 
@@ -276,28 +284,42 @@ impl<J: Naming> Seating<J> {
 
     /// The queue of a slot begins in fresh records, as [`Shared::renew`] makes it, once each call that was left
     /// Unfinished is finished. It is refused as there, for want of memory (NoMemory), and where a connection is using a
-    /// seat (Busy), which is so of none while all are at rest.
+    /// seat (Busy), which is so of none while all are at rest. With the answer comes a mark of the session, in the place
+    /// of an earlier one.
     pub fn renew<R: Wait>(
         &self,
         rt: &R,
         shared: &Shared<J>,
         slot: SlotId,
-    ) -> Result<Receipt<J>, Refusal>
-        ensures deed { IfOk result (λ receipt. receipt.deed ≡ AnyDeed.Renewal slot) }
-        ensures errors { IfErr result (IsWhyNotRenewed J.first slot) }
+        before: Marked<J>,
+    ) -> (Marked<J>, Result<(), Refusal>)
+        ensures renewed { OnOk result.1 (IsRenewedBetween before result.0 slot.0) }
+        ensures errors { IfErr result.1 (IsWhyNotRenewed J.first slot) }
+        ensures later { GoesOnLater before result.0 }
     {
         self.finish_all(rt, shared);
-        let (owed, seats) = self.take_all(rt)?;
-        let (seats, renewed) = shared.renew(rt, seats, slot);
+        let (owed, seats) = match self.take_all(rt) {
+            Ok(taken) => taken,
+            Err(refusal) => return (before, Err(refusal)),
+        };
+        let (seats, marked, renewed) = shared.renew(rt, seats, slot, before);
         self.put_all(rt, owed, seats);
-        renewed
+        (marked, renewed)
     }
 
-    /// The whole system stops. It is refused for want of memory (NoMemory).
-    pub fn crash<R: Wait>(&self, rt: &R, shared: &Shared<J>) -> Result<(), Refusal>
-        ensures { IfErr result (λ refusal. refusal ≡ Refusal.NoMemory) }
+    /// The whole system stops. It is refused for want of memory (NoMemory). With the answer comes a mark of the session,
+    /// in the place of an earlier one.
+    pub fn crash<R: Wait>(
+        &self,
+        rt: &R,
+        shared: &Shared<J>,
+        before: Marked<J>,
+    ) -> (Marked<J>, Result<(), Refusal>)
+        ensures down { OnOk result.1 (IsSome result.0.broker.recovery) }
+        ensures errors { IfErr result.1 (λ refusal. refusal ≡ Refusal.NoMemory) }
+        ensures later { GoesOnLater before result.0 }
     {
-        lock(rt, &self.post).crash(rt, shared)
+        lock(rt, &self.post).crash(rt, shared, before)
     }
 
     /// All seats, in client order, and the operator. It is refused for want of memory (NoMemory), and where a seat is in

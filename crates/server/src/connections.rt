@@ -86,7 +86,7 @@ impl<J: Naming> Desks<J> for InMemory {
         sharing: &Sharing<'_, J>,
         connection: &TcpStream,
     ) {
-        match BrokerDesk::new(alloc, sharing.shared, sharing.seats) {
+        match BrokerDesk::new(rt, alloc, sharing.shared, sharing.seats) {
             Ok(desk) => serve_at(rt, alloc, desk, sharing.stopping, connection),
             Err(_) => unserved(rt),
         }

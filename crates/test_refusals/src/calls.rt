@@ -28,7 +28,7 @@ fn rotate_too_early<J: Naming, R: Wait + Print + AllocGlobal>(
     ensures { IfOk result (λ next. next.client ≡ seat.client) }
 {
     let before = seen_beside(rt, shared, &seat.list)?;
-    let (seats, rotated) = shared.rotate(rt, all(rt, seat)?);
+    let (seats, _mark, rotated) = shared.rotate(rt, all(rt, seat)?, shared.mark_now(rt));
     let seat = only(seats).ok_or(Refusal::NoClient)?;
     let after = seen_beside(rt, shared, &seat.list)?;
     if matches!(rotated, Err(Refusal::Busy)) && before.as_str() == after.as_str() {
@@ -78,7 +78,7 @@ pub(crate) fn call<J: Naming, G: Gate, R: Wait + Print + AllocGlobal>(
     let mut seat = seat;
     for _ in 0..MOST_TRIES {
         let before = seen_beside(rt, shared, &seat.list)?;
-        let (next, answer) = shared.call(rt, seat, *asked, gate);
+        let (next, _mark, answer) = shared.call(rt, seat, *asked, gate, shared.mark_now(rt));
         seat = next;
         match answer {
             Answer::Refused(Refusal::NoMemory) => {

@@ -52,9 +52,9 @@ pub(crate) fn seen_beside<J: Naming, R: Wait + AllocGlobal>(
     list: &[Entry],
 ) -> Result<String, Refusal> {
     let mut text = empty_text(rt.alloc())?;
-    let queues = shared.list(rt);
-    let numbered = shared.told(rt, CLIENT, &Name::make(LOG)?).0;
-    let plain = shared.told(rt, CLIENT, &Name::make(DURABLE)?).0;
+    let (mark, queues) = shared.list(rt, shared.mark_now(rt));
+    let (mark, numbered) = shared.told(rt, CLIENT, &Name::make(LOG)?, mark);
+    let (_mark, plain) = shared.told(rt, CLIENT, &Name::make(DURABLE)?, mark);
     write!(text, "{queues:?} {numbered:?} {plain:?} {list:?}").map_err(|_| Refusal::NoMemory)?;
     Ok(text)
 }

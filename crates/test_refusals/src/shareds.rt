@@ -86,7 +86,7 @@ fn has_stopped<J: Naming, R: Wait>(rt: &R, shared: &Shared<J>, post: &Post<J>) -
     let Some(operator) = post.take() else {
         return false;
     };
-    let (operator, stopped) = shared.crash(rt, operator);
+    let (operator, _mark, stopped) = shared.crash(rt, operator, shared.mark_now(rt));
     *post = Some(operator);
     stopped.is_ok()
 }
@@ -116,13 +116,15 @@ fn recover<J: Naming, R: Wait + Print + AllocGlobal>(
     shared: &Shared<J>,
 ) -> Result<(), Refusal> {
     for _ in 0..MOST_TRIES {
-        if shared.recover(rt).0.is_ok() {
-            let numbered = shared.told(rt, CLIENT, &Name::make(LOG)?).0?;
-            let plain = shared.told(rt, CLIENT, &Name::make(DURABLE)?).0?;
+        let (mark, recovered) = shared.recover(rt, shared.mark_now(rt));
+        if recovered.is_ok() {
+            let (mark, numbered) = shared.told(rt, CLIENT, &Name::make(LOG)?, mark);
+            let (_mark, plain) = shared.told(rt, CLIENT, &Name::make(DURABLE)?, mark);
+            let (numbered, plain) = (numbered?, plain?);
             let _ = println!(rt; "the client is told: {numbered}, {plain}");
             return Ok(());
         }
-        let is_down = shared.list(rt) == Err(Refusal::NotReady);
+        let is_down = shared.list(rt, mark).1 == Err(Refusal::NotReady);
         say_again(rt, "Shared::recover", is_down);
     }
     Err(Refusal::NoMemory)
@@ -138,11 +140,12 @@ fn ended<J: Naming, R: Wait>(
     requires { AreAllInOrder (λ seat. seat.client) J.clients seats.items }
     ensures { AreAllInOrder (λ seat. seat.client) J.clients result.0.items }
 {
-    let (seats, receipt) = match slot {
-        Some(slot) => shared.renew(rt, seats, slot),
-        None => shared.rotate(rt, seats),
+    let mark = shared.mark_now(rt);
+    let (seats, _mark, ended) = match slot {
+        Some(slot) => shared.renew(rt, seats, slot, mark),
+        None => shared.rotate(rt, seats, mark),
     };
-    (seats, receipt.map(|_| ()))
+    (seats, ended)
 }
 
 /// Ends the histories, with fresh records or without, and prints whether they ended.

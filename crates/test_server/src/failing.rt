@@ -133,7 +133,7 @@ fn exchanged_at<J: Naming, T: Wait>(
     limits: Limits,
 ) -> Result<Exchange, Fail> {
     let mut desk = CountingDesk {
-        desk: BrokerDesk::new(alloc, shared, seats)?,
+        desk: BrokerDesk::new(rt, alloc, shared, seats)?,
         made: 0,
         settles: limits.settled,
         unsettled: 0,

@@ -70,7 +70,7 @@ fn put_all<J: Naming, R: Wait + Clock>(
     seats: &Seating<J>,
     tally: &Tally,
 ) {
-    let Ok(mut desk) = BrokerDesk::new(alloc, shared, seats) else {
+    let Ok(mut desk) = BrokerDesk::new(rt, alloc, shared, seats) else {
         return count(&tally.other);
     };
     wait_for_all(rt, &tally.there);
@@ -98,7 +98,7 @@ fn put_and_taken<J: Naming + Send + Sync, R: Threads + Wait + Clock + Abort + Sy
     seats: &Seating<J>,
     tally: &Tally,
 ) -> Result<u64, Fail> {
-    let mut desk = BrokerDesk::new(alloc, shared, seats)?;
+    let mut desk = BrokerDesk::new(rt, alloc, shared, seats)?;
     let create = Request::Create {
         queue: Name::make(b"a").ok(),
         kind: Kind::Durable,

@@ -10,7 +10,7 @@ use std::thread::{Threads, join};
 use std::time::Clock;
 use test_support::sessions::A;
 use words::{Call, Refusal, Reply};
-use workers::{Answer, End, Entry, Naming, OpenGate, Operator, Request, Seat, Shared};
+use workers::{Answer, End, Entry, Gate, Naming, OpenGate, Operator, Request, Seat, Shared};
 
 /// A call in the queue `a`, which is durable.
 pub(crate) fn plain(call: Call) -> Result<Request, Refusal> {
@@ -60,6 +60,21 @@ pub(crate) fn repeated(ask: Request, reply: Reply) -> Entry {
     entry(ask, None, End::Answered(reply))
 }
 
+/// A call that passes this gate.
+fn asked_at<J: Naming, R: Wait, G: Gate>(
+    rt: &R,
+    shared: &Shared<J>,
+    seat: Seat<J>,
+    ask: Request,
+    gate: &G,
+) -> (Seat<J>, Answer)
+    ensures { result.0.client ≡ seat.client }
+{
+    let mark = shared.mark_now(rt);
+    let (seat, _mark, answer) = shared.call(rt, seat, ask, gate, mark);
+    (seat, answer)
+}
+
 /// A call that no gate holds back.
 pub(crate) fn asked<J: Naming, R: Wait>(
     rt: &R,
@@ -69,7 +84,7 @@ pub(crate) fn asked<J: Naming, R: Wait>(
 ) -> (Seat<J>, Answer)
     ensures { result.0.client ≡ seat.client }
 {
-    shared.call(rt, seat, ask, &OpenGate)
+    asked_at(rt, shared, seat, ask, &OpenGate)
 }
 
 /// A call that a gate holds back after so many steps.
@@ -103,7 +118,7 @@ pub(crate) fn held_beside<J: Naming + Send + Sync, R: Threads + Wait + Clock + S
     let Hold { ask, steps: _ } = hold;
     let (first, second) = join(
         rt,
-        || shared.call(rt, zero, ask, &gate),
+        || asked_at(rt, shared, zero, ask, &gate),
         || {
             wait_for(rt, &there);
             let (one, answer) = asked(rt, shared, one, other);
@@ -115,15 +130,26 @@ pub(crate) fn held_beside<J: Naming + Send + Sync, R: Threads + Wait + Clock + S
     (first, second, in_time)
 }
 
+/// The system stops, and recovers: the operator, and how either went.
+pub(crate) fn stopped_and_recovered<J: Naming, R: Wait>(
+    rt: &R,
+    shared: &Shared<J>,
+    operator: Operator<J>,
+) -> (Operator<J>, Result<(), Refusal>, Result<(), Refusal>) {
+    let mark = shared.mark_now(rt);
+    let (operator, mark, stopped) = shared.crash(rt, operator, mark);
+    let (_mark, recovered) = shared.recover(rt, mark);
+    (operator, stopped, recovered)
+}
+
 /// The system stops, and recovers.
 pub(crate) fn restarted<J: Naming, R: Wait>(
     rt: &R,
     shared: &Shared<J>,
     operator: Operator<J>,
 ) -> Result<(), Refusal> {
-    let (_operator, stopped) = shared.crash(rt, operator);
+    let (_operator, stopped, recovered) = stopped_and_recovered(rt, shared, operator);
     stopped?;
-    let (recovered, _receipt) = shared.recover(rt);
     recovered
 }
 
@@ -149,7 +175,7 @@ pub(crate) fn held_over_a_crash<J: Naming + Send + Sync, R: Threads + Wait + Clo
     let Hold { ask, steps: _ } = hold;
     let (first, restart) = join(
         rt,
-        || shared.call(rt, seat, ask, &gate),
+        || asked_at(rt, shared, seat, ask, &gate),
         || {
             wait_for(rt, &there);
             let restart = restarted(rt, shared, operator);

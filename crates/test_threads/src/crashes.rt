@@ -50,7 +50,7 @@ fn stopped<J: Naming + Send + Sync, R: Threads + Wait + Clock + Abort + Sync>(
     let seat = only(seats).ok_or("one seat")?;
     let hold = Hold { ask, steps };
     let ((seat, answer), in_time) = held_over_a_crash(rt, shared, operator, seat, hold);
-    let told = shared.told(rt, Client(0), &ask.name).0;
+    let told = shared.told(rt, Client(0), &ask.name, shared.mark_now(rt)).1;
     let (seat, none) = shared.finish(rt, seat, &OpenGate);
     let right = in_time
         && answer == Answer::Interrupted

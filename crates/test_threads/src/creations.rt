@@ -42,7 +42,7 @@ const SECOND: [u8; 4] = [b'f', b'g', b'h', b'i'];
 /// came between.
 fn created<J: Naming, R: Wait + Clock>(rt: &R, shared: &Shared<J>, letter: u8) -> Option<Created> {
     for turn in 0..TURNS {
-        let (created, _receipt) = shared.create(rt, &[letter], Kind::Log);
+        let (_mark, created) = shared.create(rt, &[letter], Kind::Log, shared.mark_now(rt));
         match created {
             Created::Interrupted | Created::Refused(Refusal::NotReady | Refusal::Busy) => {
                 if turn % 4 == 3 {
@@ -103,11 +103,11 @@ fn restarts<J: Naming, R: Wait + Clock>(
         if signals.over.load(Ordering::SeqCst) == 2 {
             return right;
         }
-        let (after, stopped) = shared.crash(rt, operator);
+        let (after, mark, stopped) = shared.crash(rt, operator, shared.mark_now(rt));
         operator = after;
         right &= stopped.is_ok();
         tell(&signals.begun);
-        right &= shared.recover(rt).0 == Ok(());
+        right &= shared.recover(rt, mark).1 == Ok(());
         if turn % 64 == 63 {
             rest(rt, 1);
         }
@@ -139,7 +139,7 @@ fn are_so<J: Naming, R: Wait>(
     first: &[Option<Created>; 4],
     second: &[Option<Created>; 4],
 ) -> Result<bool, Refusal> {
-    let mut right = count(&shared.list(rt)?) == 8;
+    let mut right = count(&shared.list(rt, shared.mark_now(rt)).1?) == 8;
     for place in 0..4 {
         right &= is_so(rt, shared, FIRST[place], first[place])?;
         right &= is_so(rt, shared, SECOND[place], second[place])?;

@@ -5,7 +5,7 @@ ghost use Rattle.workers.specs.Opening.{IsNameOf};
 ghost use Rattle.test_threads.specs.Orders.{IsClientAt};
 ghost use Rattle.workers.specs.Seats.{AreAllInOrder};
 
-use crate::asking::asked;
+use crate::asking::{asked, stopped_and_recovered};
 use crate::gates::{TURNS, rest};
 use crate::lists::{Lengths, lengths};
 use crate::staging::{Played, begun, ended, opened};
@@ -169,9 +169,9 @@ fn restarts<J: Naming, R: Wait + Clock>(
         if done.load(Ordering::SeqCst) == clients {
             return right;
         }
-        let (after, stopped) = shared.crash(rt, operator);
+        let (after, stopped, recovered) = stopped_and_recovered(rt, shared, operator);
         operator = after;
-        right &= stopped.is_ok() && shared.recover(rt).0 == Ok(());
+        right &= stopped.is_ok() && recovered == Ok(());
     }
     false
 }

@@ -8,3 +8,4 @@ pub mod Idleness
 pub mod Refusals
 pub mod Room
 pub mod Unstopped
+pub mod Downs

@@ -3,5 +3,5 @@ pub mod Counts
 pub mod LastCalls
 pub mod Names
 pub mod Tellings
-pub mod Receipts
+pub mod SameRow
 pub mod Marks

@@ -1,5 +1,7 @@
 -- What a list and a history say of each other: how many calls each has, and what became of a call.
-use Rattle.std.specs.Prelude.{◌≡◌, ◌==◌, ◌&&◌, ℕ, Bool, false, is_some, List, Some, count_by, drop}
+use Rattle.std.specs.Prelude.{◌≡◌, ◌==◌, ◌&&◌, ℕ, Bool, false, is_some, List, None, Some, count_by, drop, slice_get}
+use Rattle.words.specs.PlainQueue.{Value, reply_of}
+use Rattle.words.specs.declared.call.Call.{Call}
 use Rattle.words.specs.declared.call.Client.{Client}
 use Rattle.words.specs.declared.call.Kind.TheVariants.{Log as log_kind}
 use Rattle.words.specs.declared.call.Reply.{Reply}
@@ -73,6 +75,17 @@ abbrev pub AreInterruptedTold : Sessioned → Client → List Entry → Type 0
 AreInterruptedTold s client list =
     (w : State) (place : ℕ) (call : HasEndedCall s list w place Interrupted) → w.shape.kind ≡ log_kind
     → IsToldOfCall w client place (number_or_zero call.has.entry.number)
+
+-- the plain queue may reply so to the call
+pub record IsReplyTo (call : Call) (reply : Reply) : Type 0 where
+  pub queue : List Value
+  pub is : reply ≡ reply_of queue call
+
+-- so it is of each call without a number that was answered
+abbrev pub ArePlainRepliesFit : Sessioned → Client → List Entry → Type 0
+ArePlainRepliesFit s client list =
+    (k : ℕ) (e : Entry) (reply : Reply) → slice_get list k ≡ Some e → e.number ≡ None → e.end ≡ Answered reply
+    → IsReplyTo e.call reply
 
 -- so it is of each session that keeps its promises, with a client and the list that fits its histories
 abbrev pub IsSoOfRecorded : (Sessioned → Client → List Entry → Type 0) → Type 0

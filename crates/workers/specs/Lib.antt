@@ -12,6 +12,7 @@ pub mod Opening
 pub mod Creating
 pub mod Deeds
 pub mod Seats
+pub mod Seen
 pub mod Looking
 pub mod Recovered
 pub mod Refusals

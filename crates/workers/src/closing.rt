@@ -1,6 +1,6 @@
 //! How the histories end, and how a shared session is taken back.
 
-ghost use Rattle.std.specs.Prelude.{◌≡◌, ◌++◌, [], length, IfErr, IfOk, IsTrue, OnErr, OnOk};
+ghost use Rattle.std.specs.Prelude.{◌≡◌, ◌++◌, [], length, All, IfErr, IfOk, IsTrue, OnErr, OnOk};
 ghost use Rattle.named.specs.Rotating.{IsRotated};
 ghost use Rattle.notes.specs.Noting.{IsMadeBy};
 ghost use Rattle.persist.specs.Noted.{applied};
@@ -9,14 +9,14 @@ ghost use Rattle.session.specs.Keeping.{SessionGoesOn};
 ghost use Rattle.session.specs.Promises.{KeepsNumbers};
 ghost use Rattle.workers.specs.Moments.{GoesOnLater, IsMomentOf};
 ghost use Rattle.workers.specs.Refusals.{is_rotation_refusal};
-ghost use Rattle.workers.specs.declared.deeds.Deed.{Deed as AnyDeed};
-ghost use Rattle.workers.specs.Deeds.{AreHonoured};
+ghost use Rattle.workers.specs.Deeds.{IsHeard};
+ghost use Rattle.workers.specs.Seen.{IsRotatedBetween};
 ghost use Rattle.workers.specs.Seats.{AreSeatsRecorded, AreAllInOrder, AreEmpty, AreRows};
 
-use crate::deeds::{Deed, Receipt, honoured};
 use crate::entry::Entry;
 use crate::handed::Handed;
 use crate::locked::Locked;
+use crate::marks::Marked;
 use crate::naming::Naming;
 use crate::operator::Operator;
 use crate::seat::{Seat, known, seat_of};
@@ -90,17 +90,14 @@ impl<J: Naming> Locked<J> {
     fn rotate(
         &mut self,
         roll: &Roll<Entry>,
-        deeds: &Roll<Deed>,
         seats: Vec<Seat<J>>,
-    ) -> (Vec<Seat<J>>, Result<Receipt<J>, Refusal>)
+    ) -> (Vec<Seat<J>>, Result<(), Refusal>)
         requires roll { roll.now ≡ J.roll.lists }
-        requires deeds { deeds.now ≡ J.roll.deeds }
         requires order { AreAllInOrder (λ seat. seat.client) J.clients seats.items }
         ensures order { AreAllInOrder (λ seat. seat.client) J.clients result.0.items }
         ensures empty { OnOk result.1 (AreEmpty (λ seat. seat.list.items) result.0.items) }
         ensures same { OnErr result.1 (result.0.items ≡ seats.items) }
         ensures errors { IfErr result.1 (λ refusal. IsTrue (is_rotation_refusal refusal)) }
-        ensures deed { IfOk result.1 (λ receipt. receipt.deed ≡ AnyDeed.Rotation) }
         ensures rotated { OnOk result.1 (IsRotated self.old.session.broker self.new.session.broker) }
         ensures kept { self.new.session.kept ≡ self.old.session.kept }
     {
@@ -108,8 +105,29 @@ impl<J: Naming> Locked<J> {
             return (seats, Err(refusal));
         }
         self.rotated = true;
-        let seats = all_emptied(roll, &mut self.keeper, seats);
-        (seats, Ok(self.register.enter(deeds, Deed::Rotation)))
+        (all_emptied(roll, &mut self.keeper, seats), Ok(()))
+    }
+
+    /// The same, and a mark of the session, in the place of an earlier one.
+    fn rotate_marked(
+        &mut self,
+        roll: &Roll<Entry>,
+        seats: Vec<Seat<J>>,
+        before: Marked<J>,
+    ) -> (Vec<Seat<J>>, Marked<J>, Result<(), Refusal>)
+        requires roll { roll.now ≡ J.roll.lists }
+        requires order { AreAllInOrder (λ seat. seat.client) J.clients seats.items }
+        ensures order { AreAllInOrder (λ seat. seat.client) J.clients result.0.items }
+        ensures empty { OnOk result.2 (AreEmpty (λ seat. seat.list.items) result.0.items) }
+        ensures same { OnErr result.2 (result.0.items ≡ seats.items) }
+        ensures errors { IfErr result.2 (λ refusal. IsTrue (is_rotation_refusal refusal)) }
+        ensures rotated { OnOk result.2 (IsRotatedBetween before result.1) }
+        ensures later { GoesOnLater before result.1 }
+    {
+        let marked = self.mark_after(before);
+        let (seats, rotated) = self.rotate(roll, seats);
+        let marked = self.mark_after(marked);
+        (seats, marked, rotated)
     }
 }
 
@@ -123,15 +141,17 @@ impl<J: Naming> Shared<J> {
         &self,
         rt: &R,
         seats: Vec<Seat<J>>,
-    ) -> (Vec<Seat<J>>, Result<Receipt<J>, Refusal>)
+        before: Marked<J>,
+    ) -> (Vec<Seat<J>>, Marked<J>, Result<(), Refusal>)
         requires { AreAllInOrder (λ seat. seat.client) J.clients seats.items }
         ensures order { AreAllInOrder (λ seat. seat.client) J.clients result.0.items }
-        ensures empty { OnOk result.1 (AreEmpty (λ seat. seat.list.items) result.0.items) }
-        ensures same { OnErr result.1 (result.0.items ≡ seats.items) }
-        ensures deed { IfOk result.1 (λ receipt. receipt.deed ≡ AnyDeed.Rotation) }
-        ensures errors { IfErr result.1 (λ refusal. IsTrue (is_rotation_refusal refusal)) }
+        ensures empty { OnOk result.2 (AreEmpty (λ seat. seat.list.items) result.0.items) }
+        ensures same { OnErr result.2 (result.0.items ≡ seats.items) }
+        ensures rotated { OnOk result.2 (IsRotatedBetween before result.1) }
+        ensures errors { IfErr result.2 (λ refusal. IsTrue (is_rotation_refusal refusal)) }
+        ensures later { GoesOnLater before result.1 }
     {
-        lock(rt, &self.locked).rotate(&self.roll, &self.deeds, seats)
+        lock(rt, &self.locked).rotate_marked(&self.roll, seats, before)
     }
 
     /// Takes the session back, and the seats with their lists: what a caller wants of these he copies before. The seats
@@ -179,23 +199,25 @@ impl<J: Naming> Shared<J> {
     }
 
     /// As [`Shared::close`]. Everything stopped as often as the operator knows since the seats were given, and the
-    /// receipts that are handed in are honoured: what each says was done, and no two are of the same deed.
+    /// session goes on from each that was marked.
     pub fn close_with(
         self,
         seats: Vec<Seat<J>>,
         operator: Operator<J>,
-        receipts: Vec<Receipt<J>>,
+        marks: Vec<Marked<J>>,
     ) -> Session
         requires { AreAllInOrder (λ seat. seat.client) J.clients seats.items }
         ensures lists { AreSeatsRecorded (λ seat. seat.list.items) J.first seats.items result }
-        ensures deeds { AreHonoured (λ receipt. receipt.deed) J.first.broker operator receipts.items result.broker }
+        ensures stops { IsHeard J.first.broker operator result.broker }
+        ensures later { All (λ marked. GoesOnLater marked result) marks.items }
         ensures goes_on { SessionGoesOn J.first result }
         ensures promises { KeepsNumbers result }
     {
-        let (session, keeper, mut register) = self.locked.into_inner().into_parts();
+        let mut locked = self.locked.into_inner();
+        locked.hear_all(marks);
+        let (session, keeper, mut register) = locked.into_parts();
         all_known(&self.roll, keeper, seats);
         register.hear(&self.deeds, operator);
-        honoured(&self.deeds, register, receipts);
         session
     }
 }

@@ -1,32 +1,31 @@
 //! Crashes, recoveries, and creations, under the lock.
 
-ghost use Rattle.std.specs.Prelude.{◌≡◌, ◌≢◌, ◌<◌, ◌+◌, ◌++◌, ◌∷◌, [], Err, IfErr, IfOk, IfSome, IsErr, IsTrue, None, OnErr, OnOk, true};
+ghost use Rattle.std.specs.Prelude.{◌≡◌, ◌<◌, ◌+◌, ◌++◌, ◌∷◌, [], ℕ, Err, IfErr, IfOk, IfSome, IsErr, IsSome, List, None, OnErr, OnOk, true};
 ghost use Rattle.directory.specs.Directory.{HasName, HasQueue};
-ghost use Rattle.directory.specs.Name.{IsName};
 ghost use Rattle.named.specs.Brokers.{MayCreate};
 ghost use Rattle.named.specs.GoingOn.{BrokerGoesOn};
 ghost use Rattle.named.specs.Lasting.{steps_left};
 ghost use Rattle.named.specs.Stopping.{IsStopped};
 ghost use Rattle.session.specs.Acts.{IsNextRecoveryStep};
 ghost use Rattle.workers.specs.Creating.{creating_after_crash};
-ghost use Rattle.workers.specs.Deeds.{IsReadyReceipted, IsReceipted};
 ghost use Rattle.workers.specs.Made.{IsMade};
+ghost use Rattle.workers.specs.Moments.{GoesOnLater};
 ghost use Rattle.workers.specs.Noting.{to_create, with_promised, HasPromised};
-ghost use Rattle.workers.specs.Refusals.{is_creation_refusal};
 ghost use Rattle.workers.specs.Renewing.{HasRoomToRecover};
 ghost use Rattle.workers.specs.Recovered.{is_ready_after, IsRecoveryRefusal, IsRefusedOnlyIfReady, IsStepIfRoom};
+ghost use Rattle.workers.specs.Seen.{IsCreationAt, IsWhyNotCreated, WasDown};
 ghost use Rattle.workers.specs.declared.deeds.Deed.{Deed as AnyDeed};
 ghost use Rattle.workers.specs.declared.locked.Creating.{Creating as AnyCreating};
 
 use crate::book::{noted, promise, release, release_all};
-use crate::deeds::{Deed, Receipt};
+use crate::deeds::Deed;
 use crate::locked::{Creating, Locked};
+use crate::marks::Marked;
 use crate::naming::Naming;
 use crate::operator::Operator;
 use crate::shared::Created;
 use arena::SlotId;
 use directory::{CREATION_STEPS, Queue};
-use events::copied;
 use roll::Roll;
 use session::Session;
 use words::Refusal;
@@ -41,13 +40,6 @@ impl Creating {
             Creating::Nothing | Creating::Interrupted => self,
         }
     }
-}
-
-/// Whether the broker is ready once a step of its recovery answered this.
-fn is_ready_after(step: &Result<bool, Refusal>) -> bool
-    ensures { result ≡ is_ready_after step.now }
-{
-    matches!(step, Ok(true) | Err(Refusal::AlreadyReady))
 }
 
 /// Whether the slot has this queue.
@@ -65,8 +57,7 @@ fn has(session: &Session, slot: SlotId, queue: &Queue) -> bool
 
 /// Why a creation may not begin yet: another one has not ended, or the broker recovers.
 fn why_busy(session: &Session) -> Refusal
-    ensures errors { IsTrue (is_creation_refusal result) }
-    ensures named { result ≢ Refusal.BadName }
+    ensures { (name : List ℕ) → IsWhyNotCreated session.now.broker name result }
 {
     match session.broker().list() {
         Ok(_) => Refusal::Busy,
@@ -79,9 +70,8 @@ impl<J: Naming> Locked<J> {
     /// noted, room for all of the creation's is promised now; while memory for that is refused, it is Busy.
     pub(crate) fn create(&mut self, queue: &Queue) -> Result<(), Refusal>
         ensures may { OnOk result (MayCreate self.old.session.broker queue.now.name) }
-        ensures good_name { IsName queue.now.name → result ≢ Err Refusal.BadName }
         ensures taken { HasName J.first.broker.directory queue.now.name → IsErr result }
-        ensures errors { IfErr result (λ refusal. IsTrue (is_creation_refusal refusal)) }
+        ensures errors { IfErr result (IsWhyNotCreated self.old.session.broker queue.now.name) }
         ensures same { OnErr result (self.new ≡ self.old) }
     {
         if matches!(self.creating, Creating::Interrupted) {
@@ -98,37 +88,55 @@ impl<J: Naming> Locked<J> {
         Ok(())
     }
 
-    /// One step of the creation of this queue, for its caller: what became of it, once it is over.
-    pub(crate) fn create_step(
+    /// The same, and a mark of the session, in the place of an earlier one.
+    pub(crate) fn begin_creation(
         &mut self,
-        deeds: &Roll<Deed>,
         queue: &Queue,
-    ) -> Option<(Created, Option<Receipt<J>>)>
-        requires { deeds.now ≡ J.roll.deeds }
-        ensures made { IfSome result (λ done. IsMade J.first.broker.directory self.new.session.broker done.0) }
-        ensures receipt { IfSome result (λ done. IsReceipted (λ receipt. receipt.deed) queue.now done.0 done.1) }
+        before: Marked<J>,
+    ) -> (Marked<J>, Result<(), Refusal>)
+        ensures taken { HasName J.first.broker.directory queue.now.name → IsErr result.1 }
+        ensures errors { IfErr result.1 (IsWhyNotCreated result.0.broker queue.now.name) }
+        ensures later { GoesOnLater before result.0 }
+    {
+        let marked = self.mark_after(before);
+        (marked, self.create(queue))
+    }
+
+    /// One step of the creation of this queue, for its caller: what became of it, once it is over.
+    fn creation_step(&mut self, queue: &Queue) -> Option<Created>
+        ensures made { IfSome result (IsMade J.first.broker.directory self.new.session.broker) }
+        ensures there { IfSome result (IsCreationAt self.new.session.broker queue.now) }
     {
         match self.creating {
-            Creating::UnderWay => self.make_step(deeds, queue),
+            Creating::UnderWay => self.make_step(queue),
             Creating::Interrupted => {
                 self.creating = Creating::Nothing;
-                Some((Created::Interrupted, None))
+                Some(Created::Interrupted)
             }
-            Creating::Nothing => Some((Created::Interrupted, None)),
+            Creating::Nothing => Some(Created::Interrupted),
         }
+    }
+
+    /// The same, and a mark of the session, in the place of an earlier one.
+    pub(crate) fn create_step(
+        &mut self,
+        queue: &Queue,
+        before: Marked<J>,
+    ) -> (Marked<J>, Option<Created>)
+        ensures made { IfSome result.1 (IsMade J.first.broker.directory result.0.broker) }
+        ensures there { IfSome result.1 (IsCreationAt result.0.broker queue.now) }
+        ensures later { GoesOnLater before result.0 }
+    {
+        let created = self.creation_step(queue);
+        (self.mark_after(before), created)
     }
 
     /// One step of the creation that is under way. What it opened is looked at, since no clause says here that it is
     /// the caller's: another one is never begun before the caller has seen the end of his own.
-    fn make_step(
-        &mut self,
-        deeds: &Roll<Deed>,
-        queue: &Queue,
-    ) -> Option<(Created, Option<Receipt<J>>)>
+    fn make_step(&mut self, queue: &Queue) -> Option<Created>
         requires under_way { self.old.creating ≡ AnyCreating.UnderWay }
-        requires deeds { deeds.now ≡ J.roll.deeds }
-        ensures made { IfSome result (λ done. IsMade J.first.broker.directory self.new.session.broker done.0) }
-        ensures receipt { IfSome result (λ done. IsReceipted (λ receipt. receipt.deed) queue.now done.0 done.1) }
+        ensures made { IfSome result (IsMade J.first.broker.directory self.new.session.broker) }
+        ensures there { IfSome result (IsCreationAt self.new.session.broker queue.now) }
     {
         let act = self.session.create_step_noted();
         match noted(&mut self.book, act) {
@@ -136,11 +144,9 @@ impl<J: Naming> Locked<J> {
             Ok(Some(slot)) => {
                 self.creating = Creating::Nothing;
                 if !has(&self.session, slot, queue) {
-                    return Some((Created::Interrupted, None));
+                    return Some(Created::Interrupted);
                 }
-                let deed = Deed::Creation(slot, copied(queue));
-                let receipt = self.register.enter(deeds, deed);
-                Some((Created::Queue(slot), Some(receipt)))
+                Some(Created::Queue(slot))
             }
             // The broker has it under way, and is ready.
             Err(_) => unreachable!(),
@@ -148,7 +154,7 @@ impl<J: Naming> Locked<J> {
     }
 
     /// The whole system stops: calls under way end, and so does a creation.
-    pub(crate) fn crash(
+    fn stop(
         &mut self,
         deeds: &Roll<Deed>,
         operator: Operator<J>,
@@ -167,48 +173,66 @@ impl<J: Naming> Locked<J> {
         (self.register.enter_stop(deeds, operator), Ok(()))
     }
 
-    /// One step of recovery, for whose change room was promised: whether the broker is ready by it. Where it is ready, a
-    /// receipt of that.
-    pub(crate) fn recover_promised(
+    /// The same, and a mark of the session, in the place of an earlier one.
+    pub(crate) fn crash(
         &mut self,
         deeds: &Roll<Deed>,
-    ) -> (Result<bool, Refusal>, Option<Receipt<J>>)
-        requires deeds { deeds.now ≡ J.roll.deeds }
+        operator: Operator<J>,
+        before: Marked<J>,
+    ) -> (Operator<J>, Marked<J>, Result<(), Refusal>)
+        requires { deeds.now ≡ J.roll.deeds }
+        ensures down { OnOk result.2 (IsSome result.1.broker.recovery) }
+        ensures stops { OnOk result.2 (result.0 ≡ operator ++ AnyDeed.Crash ∷ []) }
+        ensures same { OnErr result.2 (result.0 ≡ operator) }
+        ensures errors { IfErr result.2 (λ refusal. refusal ≡ Refusal.NoMemory) }
+        ensures later { GoesOnLater before result.1 }
+    {
+        let (operator, stopped) = self.stop(deeds, operator);
+        let marked = self.mark_after(before);
+        (operator, marked, stopped)
+    }
+
+    /// One step of recovery, for whose change room was promised: whether the broker is ready by it.
+    pub(crate) fn recover_promised(&mut self) -> Result<bool, Refusal>
         requires promised { HasPromised
             (to_create self.old.creating self.old.session.broker.creation + 1) self.old.promised }
-        ensures step { IsNextRecoveryStep self.old.session.broker self.new.session.broker result.0 }
-        ensures errors { IfErr result.0 IsRecoveryRefusal }
-        ensures receipt { IsReadyReceipted (λ receipt. receipt.deed) (is_ready_after result.0) result.1 }
+        ensures step { IsNextRecoveryStep self.old.session.broker self.new.session.broker result }
+        ensures errors { IfErr result IsRecoveryRefusal }
         ensures goes_on { BrokerGoesOn self.old.session.broker self.new.session.broker }
-        ensures ready { is_ready_after result.0 ≡ true → self.new.session.broker.recovery ≡ None }
+        ensures down { OnOk result (IsSome self.old.session.broker.recovery) }
+        ensures ready { is_ready_after result ≡ true → self.new.session.broker.recovery ≡ None }
         ensures room { HasRoomToRecover self.old.session.broker → HasRoomToRecover self.new.session.broker }
-        ensures never_full { HasRoomToRecover self.old.session.broker → IsRefusedOnlyIfReady result.0 }
-        ensures falls { IfOk result.0
+        ensures never_full { HasRoomToRecover self.old.session.broker → IsRefusedOnlyIfReady result }
+        ensures falls { IfOk result
             (λ ready. steps_left self.new.session.broker < steps_left self.old.session.broker) }
         ensures less { self.old.promised ≡ with_promised 1 self.new.promised }
     {
         let act = self.session.recover_step_noted();
-        let step = noted(&mut self.book, act);
-        if !is_ready_after(&step) {
-            return (step, None);
-        }
-        let receipt = self.register.enter(deeds, Deed::Readiness);
-        (step, Some(receipt))
+        noted(&mut self.book, act)
     }
 
     /// One step of recovery. Where changes are noted, it is refused for want of memory for its change, too (NoMemory).
-    pub(crate) fn recover_step(
-        &mut self,
-        deeds: &Roll<Deed>,
-    ) -> (Result<bool, Refusal>, Option<Receipt<J>>)
-        requires { deeds.now ≡ J.roll.deeds }
-        ensures step { IsStepIfRoom self.old.promised self.old.session.broker self.new.session.broker result.0 }
-        ensures errors { IfErr result.0 IsRecoveryRefusal }
-        ensures receipt { IsReadyReceipted (λ receipt. receipt.deed) (is_ready_after result.0) result.1 }
+    fn recovery_step(&mut self) -> Result<bool, Refusal>
+        ensures step { IsStepIfRoom self.old.promised self.old.session.broker self.new.session.broker result }
+        ensures errors { IfErr result IsRecoveryRefusal }
+        ensures down { OnOk result (IsSome self.old.session.broker.recovery) }
+        ensures ready { is_ready_after result ≡ true → self.new.session.broker.recovery ≡ None }
     {
         if !promise(&mut self.book, 1) {
-            return (Err(Refusal::NoMemory), None);
+            return Err(Refusal::NoMemory);
         }
-        self.recover_promised(deeds)
+        self.recover_promised()
+    }
+
+    /// The same, and a mark of the session, in the place of an earlier one.
+    pub(crate) fn recover_step(&mut self, before: Marked<J>) -> (Marked<J>, Result<bool, Refusal>)
+        ensures errors { IfErr result.1 IsRecoveryRefusal }
+        ensures down { OnOk result.1 (WasDown before result.0) }
+        ensures ready { is_ready_after result.1 ≡ true → result.0.broker.recovery ≡ None }
+        ensures later { GoesOnLater before result.0 }
+    {
+        let marked = self.mark_after(before);
+        let step = self.recovery_step();
+        (self.mark_after(marked), step)
     }
 }

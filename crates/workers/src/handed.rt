@@ -1,6 +1,6 @@
 //! How changes of kept words are handed on from under the lock, and the session marked.
 
-ghost use Rattle.std.specs.Prelude.{◌≡◌, ◌++◌, ◌∷◌, [], true, Contains, IfErr, IfNone, IfOk, IfSome, OnErr, OnOk};
+ghost use Rattle.std.specs.Prelude.{◌≡◌, ◌++◌, ◌∷◌, [], true, All, Contains, IfErr, IfNone, IfOk, IfSome, OnErr, OnOk};
 ghost use Rattle.roll.specs.Rule.{IsHolder, row_of};
 ghost use Rattle.workers.specs.Marks.{IsMarkedBy};
 ghost use Rattle.workers.specs.Moments.{AreHandedWithin, GoesOnLater, IsHandedMoment, IsMadeByHanded, IsMomentOf};
@@ -147,6 +147,16 @@ impl<J: Naming> Locked<J> {
         self.marks.hear(marked)
     }
 
+    /// Hears these marks.
+    pub(crate) fn hear_all(&mut self, marks: Vec<Marked<J>>)
+        ensures later { All (λ marked. GoesOnLater marked self.new.session) marks.items }
+        ensures same { self.new ≡ self.old }
+    {
+        for marked in marks {
+            self.hear(marked);
+        }
+    }
+
     /// Hands on as [`Locked::hand_on`] does, where the last hand-on does not go on from what was marked.
     fn hand_on_to(
         &mut self,
@@ -188,6 +198,16 @@ impl<J: Naming> Locked<J> {
         self.marks.mark(&self.session)
     }
 
+    /// Marks it, in the place of an earlier mark.
+    pub(crate) fn mark_after(&mut self, before: Marked<J>) -> Marked<J>
+        ensures before { GoesOnLater before result }
+        ensures now { result ≡ self.old.session }
+        ensures rest { self.new ≡ record self.old { marked = self.new.marked } }
+    {
+        let _ = &self.session;
+        self.marks.mark_further(before, &self.session)
+    }
+
     /// Marks it twice, in the place of an earlier mark.
     fn mark_twice(&mut self, before: Marked<J>) -> (Marked<J>, Marked<J>)
         ensures before { GoesOnLater before result.0 }
@@ -211,7 +231,7 @@ impl<J: Naming> Locked<J> {
     }
 
     /// The same, in the place of an earlier mark.
-    fn mark_further(
+    pub(crate) fn mark_further(
         &mut self,
         roll: &Roll<Entry>,
         seat: Seat<J>,

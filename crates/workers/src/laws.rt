@@ -6,7 +6,7 @@ ghost use Rattle.words.specs.declared.call.Client.{Client};
 ghost use Rattle.events.specs.declared.event.Event.{Event};
 ghost use Rattle.session.specs.Sessions.{Sessioned};
 ghost use Rattle.workers.specs.Accounts.{call_count, ran_count, AreAnswersTaken, AreCallsCounted, AreInterruptedTold};
-ghost use Rattle.workers.specs.Accounts.{IsSoOfRecorded};
+ghost use Rattle.workers.specs.Accounts.{ArePlainRepliesFit, IsSoOfRecorded};
 ghost use Rattle.workers.specs.Lists.{IsListOf, IsRecorded};
 ghost use Rattle.workers.specs.Marks.{AreAnswersSettled, AreAnswersTold, IsSoOfMarked};
 ghost use Rattle.workers.specs.declared.entry.Entry.{Entry};
@@ -22,10 +22,12 @@ pub fn calls_are_counted()
 
 /// Where a list says that a call of a log queue was interrupted, a crash ended it, and it took effect only where the
 /// next Ready told the client so. Where it says that a call was answered, in a queue of either kind, the call returned
-/// that reply and took effect with it.
+/// that reply and took effect with it. A call without a number is answered as the plain queue may: a put with Done, a
+/// take with an item or with Empty.
 pub fn interrupted_calls_are_told()
     ensures interrupted { IsSoOfRecorded AreInterruptedTold }
     ensures answered { IsSoOfRecorded AreAnswersTaken }
+    ensures plain { IsSoOfRecorded ArePlainRepliesFit }
 {}
 
 /// What a marked session tells of the answers in a seat's list. Each call took effect as it was answered (`taken`). Where

@@ -20,7 +20,7 @@ mod renewing;
 mod seat;
 mod shared;
 
-pub use deeds::{Deed, Receipt};
+pub use deeds::Deed;
 pub use entry::{Answer, End, Entry, Request};
 pub use gate::{Gate, OpenGate};
 pub use handed::Handed;

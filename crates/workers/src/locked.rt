@@ -1,19 +1,22 @@
 //! What lies under the lock.
 
-ghost use Rattle.std.specs.Prelude.{◌≡◌, ◌≢◌, ◌<◌, ◌∷◌, [], false, length, true, IfErr, vec_capacity, vec_len};
+ghost use Rattle.std.specs.Prelude.{◌≡◌, ◌≢◌, ◌<◌, ◌∷◌, [], false, length, true, IfErr, IfOk, IfSome, vec_capacity, vec_len};
 ghost use Rattle.directory.specs.Directory.{IsNamed};
 ghost use Rattle.roll.specs.Rule.{IsKeeper, rows_of};
 ghost use Rattle.workers.specs.Answers.{IsBegunAs, IsListAfter, IsListBegun};
 ghost use Rattle.workers.specs.Following.{guarded_in, IsBeginning, IsGuardedWell};
 ghost use Rattle.workers.specs.Lists.{ends_open, events_at};
+ghost use Rattle.workers.specs.Marks.{IsMarkedBy};
+ghost use Rattle.workers.specs.Moments.{GoesOnLater};
 ghost use Rattle.workers.specs.Noting.{IsBooked};
 ghost use Rattle.workers.specs.Refusals.{IsSettledStart, IsWhyRefused, WasSettled};
 ghost use Rattle.workers.specs.Seats.{AreEmpty};
+ghost use Rattle.workers.specs.Seen.{IsRefusedAt, IsRefusedIn};
 
 use crate::book::{Book, advance, promise};
 use crate::deeds::Register;
 use crate::entry::{End, Entry, Request, Took, last_queue};
-use crate::marks::Marks;
+use crate::marks::{Marked, Marks};
 use crate::naming::Naming;
 use crate::seat::{Seat, known, with_entry, with_last};
 use arena::SlotId;
@@ -157,6 +160,7 @@ impl<J: Naming> Locked<J> {
         ensures begun { IsListBegun seat.list.items request.now result.1 result.0.list.items }
         ensures act { IsBegunAs self.old.session self.new.session queue.0 seat.client request.now result.1 }
         ensures errors { IfErr result.1 (IsWhyRefused J.first seat.list.items request.now) }
+        ensures refused { IfErr result.1 (IsRefusedIn self.old.session queue.0 seat.client request.now) }
         ensures settled { (reply : Reply) → WasSettled J.first seat.client request.now reply
             → IsSettledStart reply result.1 }
     {
@@ -174,7 +178,7 @@ impl<J: Naming> Locked<J> {
     }
 
     /// Finds the queue of a call, and begins it there, in one event.
-    pub(crate) fn begin(
+    fn begin_found(
         &mut self,
         roll: &Roll<Entry>,
         seat: Seat<J>,
@@ -186,6 +190,7 @@ impl<J: Naming> Locked<J> {
         ensures client { result.0.client ≡ seat.client }
         ensures begun { IsListBegun seat.list.items request.now result.1 result.0.list.items }
         ensures errors { IfErr result.1 (IsWhyRefused J.first seat.list.items request.now) }
+        ensures refused { IfErr result.1 (IsRefusedAt self.old.session seat.client request.now) }
         ensures settled { (reply : Reply) → WasSettled J.first seat.client request.now reply
             → IsSettledStart reply result.1 }
     {
@@ -193,6 +198,40 @@ impl<J: Naming> Locked<J> {
         match self.session.broker().slot_of(&request.name) {
             Ok(queue) => self.begin_in(roll, seat, queue, request),
             Err(refusal) => (seat, Err(refusal)),
+        }
+    }
+
+    /// The same, and a mark of the session, in the place of an earlier one: as it was before, or, where the call has the
+    /// reply that was kept, as it is with the seat's list.
+    pub(crate) fn begin(
+        &mut self,
+        roll: &Roll<Entry>,
+        seat: Seat<J>,
+        request: &Request,
+        before: Marked<J>,
+    ) -> (Seat<J>, Marked<J>, Result<Option<Reply>, Refusal>)
+        requires roll { roll.now ≡ J.roll.lists }
+        requires idle { ends_open seat.list.items ≡ false }
+        requires room { vec_len seat.list < vec_capacity seat.list }
+        ensures client { result.0.client ≡ seat.client }
+        ensures begun { IsListBegun seat.list.items request.now result.2 result.0.list.items }
+        ensures errors { IfErr result.2 (IsWhyRefused J.first seat.list.items request.now) }
+        ensures refused { IfErr result.2 (IsRefusedAt result.1 seat.client request.now) }
+        ensures kept { IfOk result.2 (λ began. IfSome began (λ reply.
+            IsMarkedBy J.first seat.client result.0.list.items result.1)) }
+        ensures settled { (reply : Reply) → WasSettled J.first seat.client request.now reply
+            → IsSettledStart reply result.2 }
+        ensures later { GoesOnLater before result.1 }
+    {
+        let marked = self.mark_after(before);
+        let (seat, began) = self.begin_found(roll, seat, request);
+        match began {
+            Ok(Some(reply)) => {
+                let (seat, marked) = self.mark_further(roll, seat, marked);
+                (seat, marked, Ok(Some(reply)))
+            }
+            Ok(None) => (seat, marked, Ok(None)),
+            Err(refusal) => (seat, marked, Err(refusal)),
         }
     }
 

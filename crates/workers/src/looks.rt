@@ -1,19 +1,17 @@
 //! What threads see of the queues.
 
-ghost use Rattle.std.specs.Prelude.{◌≡◌, ◌<◌, ℕ, length, IfErr, IfOk, slice_get};
-ghost use Rattle.arena.specs.declared.broker.TheConstants.{SLOTS};
-ghost use Rattle.workers.specs.Deeds.{IsTellingReceipted, IsTold};
+ghost use Rattle.std.specs.Prelude.{◌≡◌, IfErr, IfOk};
 ghost use Rattle.workers.specs.Looking.{IsFoundOf, IsListedOf};
+ghost use Rattle.workers.specs.Moments.{GoesOnLater};
 ghost use Rattle.workers.specs.Refusals.{IsWhyNotTold, IsWhyNoUsage};
+ghost use Rattle.workers.specs.Seen.{IsListing, IsTelling};
 ghost use Rattle.workers.specs.Usage.{HasItemsOf, IsUsageOf};
 
-use crate::deeds::{Deed, Receipt};
 use crate::locked::Locked;
+use crate::marks::Marked;
 use crate::naming::Naming;
 use arena::{SLOTS, SlotId};
 use directory::{Name, Places};
-use events::copied;
-use roll::Roll;
 use words::{Client, Refusal, Told};
 
 /// What a queue holds, and how many records it has for that.
@@ -29,8 +27,7 @@ pub struct Usage {
 
 /// The same places.
 fn copy_of(places: &Places) -> Places
-    ensures count { length result ≡ SLOTS }
-    ensures same { (slot : ℕ) → slot < SLOTS → slice_get result slot ≡ slice_get places.now slot }
+    ensures { result ≡ places.now }
 {
     let mut copied: Places = [None; SLOTS];
     for slot in 0..SLOTS {
@@ -50,17 +47,27 @@ impl<J: Naming> Locked<J> {
     }
 
     /// What each slot has: a copy.
-    pub(crate) fn list(&self) -> Result<Places, Refusal>
+    fn places(&self) -> Result<Places, Refusal>
+        ensures listing { IsListing self.now.session.broker result }
         ensures queues { IfOk result (IsListedOf J.first.broker.directory) }
-        ensures errors { IfErr result (λ refusal. refusal ≡ Refusal.NotReady) }
     {
         let _ = &self.session;
         Ok(copy_of(self.session.broker().list()?))
     }
 
+    /// That, and a mark of the session, in the place of an earlier one.
+    pub(crate) fn list(&mut self, before: Marked<J>) -> (Marked<J>, Result<Places, Refusal>)
+        ensures listing { IsListing result.0.broker result.1 }
+        ensures queues { IfOk result.1 (IsListedOf J.first.broker.directory) }
+        ensures later { GoesOnLater before result.0 }
+    {
+        let places = self.places();
+        (self.mark_after(before), places)
+    }
+
     /// What the client was last told in the queue of a name.
     fn last_told(&self, client: Client, name: &Name) -> Result<Told, Refusal>
-        ensures is { IfOk result (IsTold self.now.session.broker client name.now) }
+        ensures telling { IsTelling self.now.session.broker client name.now result }
         ensures errors { IfErr result (IsWhyNotTold J.clients J.first name.now client) }
     {
         let _ = &self.session;
@@ -68,24 +75,19 @@ impl<J: Naming> Locked<J> {
         self.session.broker().told(queue, client)
     }
 
-    /// That, with a receipt of it.
+    /// That, and a mark of the session, in the place of an earlier one.
     pub(crate) fn told(
         &mut self,
-        deeds: &Roll<Deed>,
         client: Client,
         name: &Name,
-    ) -> (Result<Told, Refusal>, Option<Receipt<J>>)
-        requires { deeds.now ≡ J.roll.deeds }
-        ensures receipt { IsTellingReceipted (λ receipt. receipt.deed) client name.now result.0 result.1 }
-        ensures errors { IfErr result.0 (IsWhyNotTold J.clients J.first name.now client) }
+        before: Marked<J>,
+    ) -> (Marked<J>, Result<Told, Refusal>)
+        ensures telling { IsTelling result.0.broker client name.now result.1 }
+        ensures errors { IfErr result.1 (IsWhyNotTold J.clients J.first name.now client) }
+        ensures later { GoesOnLater before result.0 }
     {
-        match self.last_told(client, name) {
-            Ok(told) => {
-                let deed = Deed::Telling(client, copied(name), copied(&told));
-                (Ok(told), Some(self.register.enter(deeds, deed)))
-            }
-            Err(refusal) => (Err(refusal), None),
-        }
+        let told = self.last_told(client, name);
+        (self.mark_after(before), told)
     }
 
     /// What the queue of a slot holds.

@@ -8,13 +8,14 @@ ghost use Rattle.workers.specs.Noting.{HasPromised};
 ghost use Rattle.workers.specs.Refusals.{IsWhyNotRenewed};
 ghost use Rattle.workers.specs.Renewing.{HasRoomToRecover, IsRenewedOn};
 ghost use Rattle.workers.specs.Seats.{AreAllInOrder, AreEmpty};
-ghost use Rattle.workers.specs.declared.deeds.Deed.{Deed as AnyDeed};
+ghost use Rattle.workers.specs.Moments.{GoesOnLater};
+ghost use Rattle.workers.specs.Seen.{IsRenewedBetween};
 
 use crate::book::{release_all, renew};
 use crate::closing::all_emptied;
-use crate::deeds::{Deed, Receipt};
 use crate::entry::Entry;
 use crate::locked::Locked;
+use crate::marks::Marked;
 use crate::naming::Naming;
 use crate::seat::Seat;
 use crate::shared::Shared;
@@ -30,18 +31,15 @@ impl<J: Naming> Locked<J> {
     fn begin_renewed(
         &mut self,
         roll: &Roll<Entry>,
-        deeds: &Roll<Deed>,
         seats: Vec<Seat<J>>,
         slot: SlotId,
-    ) -> (Vec<Seat<J>>, Result<Receipt<J>, Refusal>)
+    ) -> (Vec<Seat<J>>, Result<(), Refusal>)
         requires roll { roll.now ≡ J.roll.lists }
-        requires deeds { deeds.now ≡ J.roll.deeds }
         requires order { AreAllInOrder (λ seat. seat.client) J.clients seats.items }
         ensures order { AreAllInOrder (λ seat. seat.client) J.clients result.0.items }
         ensures empty { OnOk result.1 (AreEmpty (λ seat. seat.list.items) result.0.items) }
         ensures same { OnErr result.1 (result.0.items ≡ seats.items) }
         ensures errors { IfErr result.1 (IsWhyNotRenewed J.first slot) }
-        ensures deed { IfOk result.1 (λ receipt. receipt.deed ≡ AnyDeed.Renewal slot) }
         ensures renewed { OnOk result.1 (IsRenewedAt self.old.session.broker self.new.session.broker slot.0) }
         ensures room { OnOk result.1 (HasRoomToRecover self.new.session.broker) }
         ensures promised { OnOk result.1 (HasPromised (steps_left self.new.session.broker + 1) self.new.promised) }
@@ -51,13 +49,11 @@ impl<J: Naming> Locked<J> {
             return (seats, Err(refusal));
         }
         self.rotated = true;
-        let seats = all_emptied(roll, &mut self.keeper, seats);
-        (seats, Ok(self.register.enter(deeds, Deed::Renewal(slot))))
+        (all_emptied(roll, &mut self.keeper, seats), Ok(()))
     }
 
     /// Recovers the broker until it is ready. Room for the changes of all steps was promised, where changes are noted.
-    fn recover_all(&mut self, deeds: &Roll<Deed>)
-        requires deeds { deeds.now ≡ J.roll.deeds }
+    fn recover_all(&mut self)
         requires room { HasRoomToRecover self.old.session.broker }
         requires promised { HasPromised (steps_left self.old.session.broker + 1) self.old.promised }
         ensures ready { self.new.session.broker.recovery ≡ None }
@@ -66,8 +62,7 @@ impl<J: Naming> Locked<J> {
     {
         let mut ready = false;
         while !ready {
-            let (step, _receipt) = self.recover_promised(deeds);
-            match step {
+            match self.recover_promised() {
                 Ok(now) => ready = now,
                 // There is room, so no step is refused but one of a broker that is ready.
                 Err(_) => return,
@@ -79,31 +74,49 @@ impl<J: Naming> Locked<J> {
     fn renew(
         &mut self,
         roll: &Roll<Entry>,
-        deeds: &Roll<Deed>,
         seats: Vec<Seat<J>>,
         slot: SlotId,
-    ) -> (Vec<Seat<J>>, Result<Receipt<J>, Refusal>)
+    ) -> (Vec<Seat<J>>, Result<(), Refusal>)
         requires roll { roll.now ≡ J.roll.lists }
-        requires deeds { deeds.now ≡ J.roll.deeds }
         requires order { AreAllInOrder (λ seat. seat.client) J.clients seats.items }
         ensures order { AreAllInOrder (λ seat. seat.client) J.clients result.0.items }
         ensures empty { OnOk result.1 (AreEmpty (λ seat. seat.list.items) result.0.items) }
         ensures same { OnErr result.1 (result.0.items ≡ seats.items) }
         ensures errors { IfErr result.1 (IsWhyNotRenewed J.first slot) }
-        ensures deed { IfOk result.1 (λ receipt. receipt.deed ≡ AnyDeed.Renewal slot) }
         ensures renewed { OnOk result.1 (IsRenewedOn self.old.session.broker self.new.session.broker slot.0) }
         ensures ready { OnOk result.1 (self.new.session.broker.recovery ≡ None) }
         ensures unchanged { OnErr result.1 (self.new ≡ self.old) }
     {
-        let (seats, begun) = self.begin_renewed(roll, deeds, seats, slot);
-        match begun {
-            Ok(receipt) => {
-                self.recover_all(deeds);
-                release_all(&mut self.book);
-                (seats, Ok(receipt))
-            }
-            Err(refusal) => (seats, Err(refusal)),
+        let (seats, begun) = self.begin_renewed(roll, seats, slot);
+        if let Err(refusal) = begun {
+            return (seats, Err(refusal));
         }
+        self.recover_all();
+        release_all(&mut self.book);
+        (seats, Ok(()))
+    }
+
+    /// The same, and a mark of the session, in the place of an earlier one.
+    fn renew_marked(
+        &mut self,
+        roll: &Roll<Entry>,
+        seats: Vec<Seat<J>>,
+        slot: SlotId,
+        before: Marked<J>,
+    ) -> (Vec<Seat<J>>, Marked<J>, Result<(), Refusal>)
+        requires roll { roll.now ≡ J.roll.lists }
+        requires order { AreAllInOrder (λ seat. seat.client) J.clients seats.items }
+        ensures order { AreAllInOrder (λ seat. seat.client) J.clients result.0.items }
+        ensures empty { OnOk result.2 (AreEmpty (λ seat. seat.list.items) result.0.items) }
+        ensures same { OnErr result.2 (result.0.items ≡ seats.items) }
+        ensures errors { IfErr result.2 (IsWhyNotRenewed J.first slot) }
+        ensures renewed { OnOk result.2 (IsRenewedBetween before result.1 slot.0) }
+        ensures later { GoesOnLater before result.1 }
+    {
+        let marked = self.mark_after(before);
+        let (seats, renewed) = self.renew(roll, seats, slot);
+        let marked = self.mark_after(marked);
+        (seats, marked, renewed)
     }
 }
 
@@ -120,14 +133,16 @@ impl<J: Naming> Shared<J> {
         rt: &R,
         seats: Vec<Seat<J>>,
         slot: SlotId,
-    ) -> (Vec<Seat<J>>, Result<Receipt<J>, Refusal>)
+        before: Marked<J>,
+    ) -> (Vec<Seat<J>>, Marked<J>, Result<(), Refusal>)
         requires { AreAllInOrder (λ seat. seat.client) J.clients seats.items }
         ensures order { AreAllInOrder (λ seat. seat.client) J.clients result.0.items }
-        ensures empty { OnOk result.1 (AreEmpty (λ seat. seat.list.items) result.0.items) }
-        ensures same { OnErr result.1 (result.0.items ≡ seats.items) }
-        ensures deed { IfOk result.1 (λ receipt. receipt.deed ≡ AnyDeed.Renewal slot) }
-        ensures errors { IfErr result.1 (IsWhyNotRenewed J.first slot) }
+        ensures empty { OnOk result.2 (AreEmpty (λ seat. seat.list.items) result.0.items) }
+        ensures same { OnErr result.2 (result.0.items ≡ seats.items) }
+        ensures renewed { OnOk result.2 (IsRenewedBetween before result.1 slot.0) }
+        ensures errors { IfErr result.2 (IsWhyNotRenewed J.first slot) }
+        ensures later { GoesOnLater before result.1 }
     {
-        lock(rt, &self.locked).renew(&self.roll, &self.deeds, seats, slot)
+        lock(rt, &self.locked).renew_marked(&self.roll, seats, slot, before)
     }
 }

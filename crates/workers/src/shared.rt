@@ -1,14 +1,15 @@
 //! A broker that threads share.
 
-ghost use Rattle.std.specs.Prelude.{◌≡◌, ◌≢◌, ◌<◌, ◌++◌, ◌∷◌, [], false, IfErr, IfOk, IfSome, IsTrue, OnErr, OnOk, true, vec_capacity, vec_len};
+ghost use Rattle.std.specs.Prelude.{◌≡◌, ◌<◌, ◌++◌, ◌∷◌, [], false, IfErr, IfOk, IfSome, IsSome, IsTrue, OnErr, OnOk, true, vec_capacity, vec_len};
 ghost use Rattle.workers.specs.Answers.{Finishes, IsListAfter, IsListBegun, Remembers};
-ghost use Rattle.workers.specs.Deeds.{IsReadyReceipted, IsReceipted, IsTellingReceipted};
 ghost use Rattle.workers.specs.Lists.{ends_open};
 ghost use Rattle.workers.specs.Looking.{IsCreatedBeside, IsFoundOf, IsListedOf};
-ghost use Rattle.workers.specs.Refusals.{is_creation_refusal, is_refused, IsWhyNotTold};
-ghost use Rattle.workers.specs.Refusals.{IfNotCreated, IfNotMade};
+ghost use Rattle.workers.specs.Marks.{IsMarkedBy};
+ghost use Rattle.workers.specs.Moments.{GoesOnLater};
+ghost use Rattle.workers.specs.Refusals.{is_refused, IfNotMade, IsWhyNotTold};
 ghost use Rattle.workers.specs.Recovered.{is_ready_after, is_ready_by, told_of_recovery, IsRecoveryRefusal};
 ghost use Rattle.workers.specs.Refusals.{IsSettledAnswer, IsSettledStart, IsWhyNoUsage, IsWhyRefused, WasSettled};
+ghost use Rattle.workers.specs.Seen.{IfMade, IsCallRefused, IsCreationAt, IsListing, IsRefusedAt, IsTelling, WasDown};
 ghost use Rattle.workers.specs.Usage.{IsUsageOf};
 ghost use Rattle.directory.specs.Directory.{HasName};
 ghost use Rattle.directory.specs.Name.{IsName};
@@ -16,11 +17,12 @@ ghost use Rattle.workers.specs.declared.entry.Answer.{Answer as AnyAnswer};
 ghost use Rattle.workers.specs.declared.deeds.Deed.{Deed as AnyDeed};
 ghost use Rattle.workers.specs.declared.shared.Created.{Created as AnyCreated};
 
-use crate::deeds::{Deed, Receipt};
+use crate::deeds::Deed;
 use crate::entry::{Answer, Entry, Request, Took};
 use crate::gate::Gate;
 use crate::locked::Locked;
 use crate::looks::Usage;
+use crate::marks::Marked;
 use crate::naming::Naming;
 use crate::operator::Operator;
 use crate::seat::Seat;
@@ -76,16 +78,21 @@ impl<J: Naming> Shared<J> {
         rt: &R,
         seat: Seat<J>,
         request: Request,
-    ) -> (Seat<J>, Result<Option<Reply>, Refusal>)
+        before: Marked<J>,
+    ) -> (Seat<J>, Marked<J>, Result<Option<Reply>, Refusal>)
         requires idle { ends_open seat.list.items ≡ false }
         requires room { vec_len seat.list < vec_capacity seat.list }
         ensures client { result.0.client ≡ seat.client }
-        ensures begun { IsListBegun seat.list.items request result.1 result.0.list.items }
-        ensures errors { IfErr result.1 (IsWhyRefused J.first seat.list.items request) }
+        ensures begun { IsListBegun seat.list.items request result.2 result.0.list.items }
+        ensures errors { IfErr result.2 (IsWhyRefused J.first seat.list.items request) }
+        ensures refused { IfErr result.2 (IsRefusedAt result.1 seat.client request) }
+        ensures kept { IfOk result.2 (λ began. IfSome began (λ reply.
+            IsMarkedBy J.first seat.client result.0.list.items result.1)) }
         ensures settled { (reply : Reply) → WasSettled J.first seat.client request reply
-            → IsSettledStart reply result.1 }
+            → IsSettledStart reply result.2 }
+        ensures later { GoesOnLater before result.1 }
     {
-        lock(rt, &self.locked).begin(&self.roll, seat, &request)
+        lock(rt, &self.locked).begin(&self.roll, seat, &request, before)
     }
 
     /// One step of the seat's open call.
@@ -122,6 +129,25 @@ impl<J: Naming> Shared<J> {
         unreachable!()
     }
 
+    /// Goes on with a call that has begun, as [`Shared::go_on`] does, and marks the session then.
+    fn go_on_marked<R: Wait, G: Gate>(
+        &self,
+        rt: &R,
+        seat: Seat<J>,
+        gate: &G,
+        before: Marked<J>,
+    ) -> (Seat<J>, Marked<J>, Answer)
+        requires { ends_open seat.list.items ≡ true }
+        ensures client { result.0.client ≡ seat.client }
+        ensures finishes { Finishes seat.list.items result.2 result.0.list.items }
+        ensures marked { IsMarkedBy J.first seat.client result.0.list.items result.1 }
+        ensures later { GoesOnLater before result.1 }
+    {
+        let (seat, answer) = self.go_on(rt, seat, gate);
+        let (seat, marked) = self.mark_further(rt, seat, before);
+        (seat, marked, answer)
+    }
+
     /// Makes a call of the seat's client in the queue of a name: with a number in a log queue, where it is answered
     /// from what is kept if it is the client's last number, and without one in a durable queue. The seat remembers just
     /// this call, with the answer that is given, in the slot that has the name. It passes the gate after its start and
@@ -129,36 +155,42 @@ impl<J: Naming> Shared<J> {
     /// for want of memory for its entry (NoMemory), while the broker recovers (NotReady), where there is no such queue
     /// (NoQueue), and as [`session::Session::begin`] is; then nothing is remembered. A number that was settled when the
     /// seats were given runs no more: it has its reply, or is Old. A step that is refused memory leaves the call under
-    /// way (Unfinished), for [`Shared::finish`].
+    /// way (Unfinished), for [`Shared::finish`]. With the answer comes a mark of the session, in the place of an earlier
+    /// one: its histories have the seat's list, or it is the session that refuses the call.
     pub fn call<R: Wait, G: Gate>(
         &self,
         rt: &R,
         seat: Seat<J>,
         request: Request,
         gate: &G,
-    ) -> (Seat<J>, Answer)
+        before: Marked<J>,
+    ) -> (Seat<J>, Marked<J>, Answer)
         ensures client { result.0.client ≡ seat.client }
-        ensures entry { Remembers seat.list.items request result.1 result.0.list.items }
-        ensures busy { ends_open seat.list.items ≡ true → result ≡ (seat, AnyAnswer.Refused Refusal.Busy) }
-        ensures errors { IfNotMade result.1 (IsWhyRefused J.first seat.list.items request) }
+        ensures entry { Remembers seat.list.items request result.2 result.0.list.items }
+        ensures marked { IfMade result.2 (IsMarkedBy J.first seat.client result.0.list.items result.1) }
+        ensures refused { IfNotMade result.2 (IsCallRefused seat.list.items result.1 seat.client request) }
+        ensures busy { ends_open seat.list.items ≡ true
+            → result ≡ (seat, before, AnyAnswer.Refused Refusal.Busy) }
+        ensures errors { IfNotMade result.2 (IsWhyRefused J.first seat.list.items request) }
         ensures settled { (reply : Reply) → WasSettled J.first seat.client request reply
-            → IsSettledAnswer reply result.1 }
+            → IsSettledAnswer reply result.2 }
+        ensures later { GoesOnLater before result.1 }
     {
         if seat.is_open() {
-            return (seat, Answer::Refused(Refusal::Busy));
+            return (seat, before, Answer::Refused(Refusal::Busy));
         }
         let (seat, room) = seat.with_room();
         if !room {
-            return (seat, Answer::Refused(Refusal::NoMemory));
+            return (seat, before, Answer::Refused(Refusal::NoMemory));
         }
-        let (seat, began) = self.begin(rt, seat, request);
+        let (seat, marked, began) = self.begin(rt, seat, request, before);
         match began {
             Ok(None) => {
                 gate.pass(rt, seat.client, 0);
-                self.go_on(rt, seat, gate)
+                self.go_on_marked(rt, seat, gate, marked)
             }
-            Ok(Some(reply)) => (seat, Answer::Reply(reply)),
-            Err(refusal) => (seat, Answer::Refused(refusal)),
+            Ok(Some(reply)) => (seat, marked, Answer::Reply(reply)),
+            Err(refusal) => (seat, marked, Answer::Refused(refusal)),
         }
     }
 
@@ -178,57 +210,74 @@ impl<J: Naming> Shared<J> {
     /// Creates a queue, one act a step. It is Interrupted where a crash came between, and refused as
     /// [`session::Session::create`] is; Busy also where a crash ended another creation whose caller has not seen that
     /// yet, and, where changes are noted, while memory for all of its own is refused. A name that a queue had when the
-    /// seats were given is taken for good, and so is its slot. A queue that was created comes with a receipt of that.
-    pub fn create<R: Wait>(&self, rt: &R, name: &[u8], kind: Kind) -> (Created, Option<Receipt<J>>)
-        ensures bad_name { (IsName name.now → ⊥) → result.0 ≡ AnyCreated.Refused Refusal.BadName }
-        ensures good_name { IsName name.now → result.0 ≢ AnyCreated.Refused Refusal.BadName }
-        ensures taken { HasName J.first.broker.directory name.now → IsTrue (is_refused result.0) }
-        ensures receipt { IsReceipted (λ receipt. receipt.deed) (record { name = name.now; kind = kind }) result.0
-            result.1 }
-        ensures free { IsCreatedBeside J.first.broker.directory result.0 }
-        ensures errors { IfNotCreated result.0 (λ refusal. IsTrue (is_creation_refusal refusal)) }
+    /// seats were given is taken for good, and so is its slot. With the answer comes a mark of the session, in the place
+    /// of an earlier one.
+    pub fn create<R: Wait>(
+        &self,
+        rt: &R,
+        name: &[u8],
+        kind: Kind,
+        before: Marked<J>,
+    ) -> (Marked<J>, Created)
+        ensures there { IsCreationAt result.0.broker (record { name = name.now; kind = kind }) result.1 }
+        ensures bad_name { (IsName name.now → ⊥) → result.1 ≡ AnyCreated.Refused Refusal.BadName }
+        ensures taken { HasName J.first.broker.directory name.now → IsTrue (is_refused result.1) }
+        ensures free { IsCreatedBeside J.first.broker.directory result.1 }
+        ensures later { GoesOnLater before result.0 }
     {
         let queue = match Name::make(name) {
             Ok(name) => Queue { name, kind },
-            Err(refusal) => return (Created::Refused(refusal), None),
+            Err(refusal) => return (before, Created::Refused(refusal)),
         };
-        if let Err(refusal) = lock(rt, &self.locked).create(&queue) {
-            return (Created::Refused(refusal), None);
+        let (mut marked, begun) = lock(rt, &self.locked).begin_creation(&queue, before);
+        if let Err(refusal) = begun {
+            return (marked, Created::Refused(refusal));
         }
         for _ in rt.forever() {
-            if let Some(created) = lock(rt, &self.locked).create_step(&self.deeds, &queue) {
-                return created;
+            let (next, created) = lock(rt, &self.locked).create_step(&queue, marked);
+            marked = next;
+            if let Some(created) = created {
+                return (marked, created);
             }
         }
         unreachable!()
     }
 
     /// The whole system stops, as its operator wants: each call under way is interrupted, as its seat hears when it goes
-    /// on. It is refused for want of memory (NoMemory), and then nothing stopped.
+    /// on. It is refused for want of memory (NoMemory), and then nothing stopped. With the answer comes a mark of the
+    /// session, in the place of an earlier one.
     pub fn crash<R: Wait>(
         &self,
         rt: &R,
         operator: Operator<J>,
-    ) -> (Operator<J>, Result<(), Refusal>)
-        ensures stops { OnOk result.1 (result.0 ≡ operator ++ AnyDeed.Crash ∷ []) }
-        ensures same { OnErr result.1 (result.0 ≡ operator) }
-        ensures errors { IfErr result.1 (λ refusal. refusal ≡ Refusal.NoMemory) }
+        before: Marked<J>,
+    ) -> (Operator<J>, Marked<J>, Result<(), Refusal>)
+        ensures down { OnOk result.2 (IsSome result.1.broker.recovery) }
+        ensures stops { OnOk result.2 (result.0 ≡ operator ++ AnyDeed.Crash ∷ []) }
+        ensures same { OnErr result.2 (result.0 ≡ operator) }
+        ensures errors { IfErr result.2 (λ refusal. refusal ≡ Refusal.NoMemory) }
+        ensures later { GoesOnLater before result.1 }
     {
-        lock(rt, &self.locked).crash(&self.deeds, operator)
+        lock(rt, &self.locked).crash(&self.deeds, operator, before)
     }
 
     /// Recovers the broker, one act a step, until it is ready; other threads may take steps too. It is refused where no
     /// recovery is under way at its first step (AlreadyReady), and for want of memory (NoMemory): then the steps that
-    /// were made stand, and another `recover` goes on. What says that the broker is ready comes with a receipt of that.
-    pub fn recover<R: Wait>(&self, rt: &R) -> (Result<(), Refusal>, Option<Receipt<J>>)
-        ensures receipt { IsReadyReceipted (λ receipt. receipt.deed) (is_ready_by result.0) result.1 }
-        ensures errors { IfErr result.0 IsRecoveryRefusal }
+    /// were made stand, and another `recover` goes on. With the answer comes a mark of the session, in the place of an
+    /// earlier one, at which the broker is ready where that is what is said.
+    pub fn recover<R: Wait>(&self, rt: &R, before: Marked<J>) -> (Marked<J>, Result<(), Refusal>)
+        ensures ready { is_ready_by result.1 ≡ true → result.0.broker.recovery ≡ None }
+        ensures down { OnOk result.1 (WasDown before result.0) }
+        ensures errors { IfErr result.1 IsRecoveryRefusal }
+        ensures later { GoesOnLater before result.0 }
     {
+        let mut marked = before;
         let mut begun = false;
         for _ in rt.forever() {
-            let (step, receipt) = lock(rt, &self.locked).recover_step(&self.deeds);
+            let (next, step) = lock(rt, &self.locked).recover_step(marked);
+            marked = next;
             if let Some(told) = told_of_recovery(begun, step) {
-                return (told, receipt);
+                return (marked, told);
             }
             begun = true;
         }
@@ -245,27 +294,31 @@ impl<J: Naming> Shared<J> {
     }
 
     /// What each slot has, as it is now: a copy. The queues that there were when the seats were given are among them
-    /// for good. It is refused as [`named::Broker::list`] is.
-    pub fn list<R: Wait>(&self, rt: &R) -> Result<Places, Refusal>
-        ensures queues { IfOk result (IsListedOf J.first.broker.directory) }
-        ensures errors { IfErr result (λ refusal. refusal ≡ Refusal.NotReady) }
+    /// for good. It is refused as [`named::Broker::list`] is. With the answer comes a mark of the session that lists
+    /// them so, in the place of an earlier one.
+    pub fn list<R: Wait>(&self, rt: &R, before: Marked<J>) -> (Marked<J>, Result<Places, Refusal>)
+        ensures listing { IsListing result.0.broker result.1 }
+        ensures queues { IfOk result.1 (IsListedOf J.first.broker.directory) }
+        ensures later { GoesOnLater before result.0 }
     {
-        lock(rt, &self.locked).list()
+        lock(rt, &self.locked).list(before)
     }
 
     /// What the client was last told in the queue of a name. It is refused, in this order, while the broker recovers
-    /// (NotReady), where there is no such queue (NoQueue), and where there is no such client (NoClient). It comes with a
-    /// receipt.
+    /// (NotReady), where there is no such queue (NoQueue), and where there is no such client (NoClient). With the answer
+    /// comes a mark of the session that tells so, in the place of an earlier one.
     pub fn told<R: Wait>(
         &self,
         rt: &R,
         client: Client,
         name: &Name,
-    ) -> (Result<Told, Refusal>, Option<Receipt<J>>)
-        ensures receipt { IsTellingReceipted (λ receipt. receipt.deed) client name.now result.0 result.1 }
-        ensures errors { IfErr result.0 (IsWhyNotTold J.clients J.first name.now client) }
+        before: Marked<J>,
+    ) -> (Marked<J>, Result<Told, Refusal>)
+        ensures telling { IsTelling result.0.broker client name.now result.1 }
+        ensures errors { IfErr result.1 (IsWhyNotTold J.clients J.first name.now client) }
+        ensures later { GoesOnLater before result.0 }
     {
-        lock(rt, &self.locked).told(&self.deeds, client, name)
+        lock(rt, &self.locked).told(client, name, before)
     }
 
     /// What the queue of a slot holds now, and how many clients and records it has. It walks the queue. It is refused, in

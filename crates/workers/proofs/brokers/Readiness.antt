@@ -1,6 +1,6 @@
 -- When a step of recovery leaves the broker ready.
 use Rattle.std.proofs.Common.{◌≡◌, ◌∙◌, ℕ, Bool, true, false, not, Option, Some, None, Result, Ok, Err, slice_get, refl, sym, ap, subst, arith}
-use Rattle.std.specs.Prelude.{is_none, is_some, nat_lt}
+use Rattle.std.specs.Prelude.{IsSome, OnOk, is_none, is_some, nat_lt}
 use Rattle.std.proofs.lemmas.Bool.{ltb-true}
 use Rattle.words.specs.declared.refusal.Refusal.{Refusal}
 use Rattle.words.specs.declared.refusal.Refusal.TheVariants.{NoMemory}
@@ -86,3 +86,18 @@ ready_after old new result well step ready = go old.recovery refl step
             absurd (cc (listed_open old slot.0 it.queue well it.has, none))
         there (Some w) here on =
             by_queue slot.0 w (waits_there old well slot e w here) (recover_result (is_no_memory result) w) refl on
+
+-- a step was made only while the broker was down
+pub down_before : (old new : Brokered) (result : Result Bool Refusal) → IsRecoveryStep old new result old.recovery
+    → OnOk result (IsSome old.recovery)
+down_before old new result step = go old.recovery step
+  where
+    some : (r : BrokerRecovery) (answer : Result Bool Refusal)
+        → OnOk answer (IsSome (let o : Option BrokerRecovery = Some r in o))
+    some r (Ok ready) = refl
+    some r (Err refusal) = tt
+
+    go : (o : Option BrokerRecovery) → IsRecoveryStep old new result o → OnOk result (IsSome o)
+    go None same =
+        subst (λ (a : Result Bool Refusal). OnOk a (IsSome (let o : Option BrokerRecovery = None in o))) (sym same.0) tt
+    go (Some r) made = some r result

@@ -22,9 +22,9 @@ use Rattle.named.specs.declared.recovery.BrokerRecovery.{BrokerRecovery}
 use Rattle.named.specs.declared.recovery.BrokerRecovery.TheVariants.{ReadDirectory, RecoverQueue}
 use Rattle.words.specs.declared.refusal.Refusal.{Refusal}
 use Rattle.workers.specs.Deeds.{CameBy}
-use Rattle.workers.specs.Deeds.CameBy.{act, crash, creation as opened_by}
+use Rattle.workers.specs.Deeds.CameBy.{act, crash}
 use Rattle.workers.specs.declared.deeds.Deed.{Deed}
-use Rattle.workers.specs.declared.deeds.Deed.TheVariants.{Crash, Creation as creation_deed}
+use Rattle.workers.specs.declared.deeds.Deed.TheVariants.{Crash}
 use Rattle.workers.specs.Creating.{IsCreationKnown, creating_after_crash, is_under_way}
 use Rattle.directory.specs.Creation.{successor}
 use Rattle.directory.specs.Directory.{Directory, HasQueue}
@@ -58,23 +58,6 @@ pub with_rows : (all : ℕ) (first : Sessioned) (g : Guarded) (rows : List (List
     → IsGuardedWell all first g → IsGuardedWell all first (record g { rows = rows })
 with_rows all first g rows same well =
     subst (λ (rs : List (List Entry)). IsGuardedWell all first (record g { rows = rs })) (sym same) well
-
--- with other rows of what was done
-pub with_deeds : (all : ℕ) (first : Sessioned) (g : Guarded) (deeds kept : List (List Deed)) → kept ≡ deeds
-    → IsGuardedWell all first g → CameBy first.broker deeds g.session.broker
-    → IsGuardedWell all first (record g { deeds = kept })
-with_deeds all first g deeds kept same well came = record {
-  beginning = well.beginning;
-  clients = well.clients;
-  followed = well.followed;
-  named = well.named;
-  promises = well.promises;
-  creation = well.creation;
-  goes_on = well.goes_on;
-  came = well.came;
-  done = subst (λ (rows : List (List Deed)). CameBy first.broker rows g.session.broker) (sym same) came;
-  later = well.later;
-}
 
 -- where this very session is marked
 pub with_mark : (all : ℕ) (first : Sessioned) (g : Guarded) (marked : List Sessioned) → marked ≡ g.marked ++ g.session ∷ []
@@ -309,27 +292,6 @@ module _ (old new : Brokered) (known : IsCreationKnown old UnderWay) where
             subst (λ (s : SlotId). IsSome (world_at new s.0)) same
                 (subst (λ (o : Option State). IsSome o) (sym made.1.world) refl),
           )
-
-  -- so it is one of the deeds: what it opened is this queue
-  pub done_by_last : (first : Brokered) (result : Result (Option SlotId) Refusal) (slot : SlotId) (queue : Queue)
-      → result ≡ Ok (Some slot) → HasQueue new.directory slot.0 queue → Steps result → {deeds : List (List Deed)}
-      → CameBy first deeds old → CameBy first (deeds ++ (creation_deed slot queue ∷ []) ∷ []) new
-  done_by_last first result slot queue is has step {deeds} before =
-      by_creation result step (λ made_of made. last made_of (successor made_of) made)
-    where
-      last : (made_of : Creation) (after : After Creation SlotId) → IsStepCreated old new made_of result after
-          → CameBy first (deeds ++ (creation_deed slot queue ∷ []) ∷ []) new
-      last made_of (More next) made = absurd (none_is_more slot (sym made.0 ∙ is))
-      last made_of (Done other) made =
-          let same : other ≡ slot = cc (sym made.0 ∙ is) in
-          let there : slice_get (slice_set old.directory slot.0 (Some made_of.queue)) slot.0 ≡ Some (Some queue) =
-          subst (λ (x : SlotId). slice_get (slice_set old.directory x.0 (Some made_of.queue)) slot.0 ≡ Some (Some queue))
-          same (subst (λ (places : Directory). slice_get places slot.0 ≡ Some (Some queue)) made.1.directory has) in
-          let queue_is : made_of.queue ≡ queue =
-          same_Some made_of.queue queue (set_here old.directory slot.0 (Some made_of.queue) (Some queue) there) in
-          subst (λ (q : Queue). CameBy first (deeds ++ (creation_deed slot q ∷ []) ∷ []) new) queue_is
-          (subst (λ (x : SlotId). CameBy first (deeds ++ (creation_deed x made_of.queue ∷ []) ∷ []) new) same
-          (opened_by before made.1))
 
   -- none is refused
   pub step_is_made : (result : Result (Option SlotId) Refusal) (refusal : Refusal) → result ≡ Err refusal → Steps result

@@ -13,7 +13,7 @@ use Rattle.words.specs.declared.call.Kind.TheVariants.{Durable as durable_kind, 
 use Rattle.words.specs.declared.call.Reply.{Reply}
 use Rattle.words.specs.declared.limits.TheConstants.{MAX_CALL_NUMBER}
 use Rattle.words.specs.declared.refusal.Refusal.{Refusal}
-use Rattle.words.specs.declared.refusal.Refusal.TheVariants.{Busy, Gap, NoClient, NoMemory}
+use Rattle.words.specs.declared.refusal.Refusal.TheVariants.{BadName, Busy, DirectoryFull, Exists, Gap, NoClient, NoMemory}
 use Rattle.words.specs.declared.refusal.Refusal.TheVariants.{NoQueue, NotReady, Old, StaleNumber, WrongKind}
 use Rattle.words.specs.declared.told.Outcome.{Outcome}
 use Rattle.words.specs.declared.told.Outcome.TheVariants.{NotTaken, Taken}
@@ -25,7 +25,7 @@ use Rattle.interleave.specs.Calls.{is_no_memory}
 use Rattle.interleave.specs.State.{State, start_result}
 use Rattle.interleave.specs.Verdicts.{number_of_call, number_under_way}
 use Rattle.interleave.proofs.Facts.{IsWhyUnstarted, why_unstarted}
-use Rattle.named.specs.Brokers.{Brokered, answer_at, answer_if, has_client, world_at}
+use Rattle.named.specs.Brokers.{Brokered, IsNotCreated, answer_at, answer_if, has_client, world_at}
 use Rattle.named.specs.Finding.{IsPlaced}
 use Rattle.protocol.specs.declared.UnderWay.{UnderWay}
 use Rattle.named.specs.Brokers.{is_down as is_broker_down}
@@ -35,7 +35,7 @@ use Rattle.named.specs.declared.recovery.BrokerRecovery.{BrokerRecovery}
 use Rattle.named.proofs.Facts.{listed_open}
 use Rattle.session.specs.Keeping.{IsSettled}
 use Rattle.session.specs.Numbers.{by_last, by_number, by_outcome, missed}
-use Rattle.session.specs.Requests.{IsBegunBy, answer_to, as_begun, is_kind, number_or_zero, queue_admission}
+use Rattle.session.specs.Requests.{IsBegunBy, IsRequestBegun, answer_to, as_begun, beginning, is_kind, number_or_zero, queue_admission}
 use Rattle.session.specs.Requests.{request_admission}
 use Rattle.session.specs.Sessions.{IsLogClient, Sessioned, kept_at}
 use Rattle.session.proofs.Facts.{clients_there, holds_there, up_there}
@@ -43,6 +43,7 @@ use Rattle.workers.specs.Following.{Guarded, IsGuardedWell}
 use Rattle.workers.specs.Lists.{ends_open, events_at, events_of}
 use Rattle.workers.specs.Refusals.{IsSettledStart, IsWhyNotTold, IsWhyRefused, WasSettled, is_rotation_refusal}
 use Rattle.workers.specs.Refusals.{is_settled_refusal, kind_asked}
+use Rattle.workers.specs.Seen.{IsRefusedAt, IsRefusedIn, IsWhyNotCreated, begun_to}
 use Rattle.workers.specs.declared.entry.Entry.{Entry}
 use Rattle.workers.specs.Coming.{CameThrough}
 use Rattle.workers.specs.declared.entry.Request.{Request}
@@ -428,3 +429,47 @@ rotation_refused full b refusal is = go (is_broker_down b) (is_some b.creation |
     go false false true e =
         subst (λ (y : Refusal). IsTrue (is_rotation_refusal y)) (let s : NoMemory ≡ refusal = cc (e) in s) refl
     go false false false e = absurd (cc (e))
+
+-- a request that was refused is refused by the session as it was before
+pub refused_in : (s new : Sessioned) (slot : ℕ) (client : Client) (r : Request) (refusal : Refusal)
+    → IsRequestBegun s new slot client r.number r.call (Err refusal) → IsRefusedIn s slot client r refusal
+refused_in s new slot client r refusal begun = go (answer_to s slot client r.number) refl begun
+  where
+    start : Bool → Result (Option Reply) Refusal
+    start full = answer_at ((beginning client (number_or_zero r.number) r.call).answers full) s.broker slot client
+
+    go : (answer : Result (Option Reply) Refusal) → answer_to s slot client r.number ≡ answer
+        → IsBegunBy s new slot client (number_or_zero r.number) r.call (Err refusal) answer
+        → IsRefusedIn s slot client r refusal
+    go (Err why) is act = record {
+      full = false;
+      no_room = λ never. absurd (true≢false (sym never));
+      outcome = ap (λ (a : Result (Option Reply) Refusal). begun_to a (start false)) is ∙ sym act.0;
+    }
+    go (Ok (Some reply)) is act = absurd (cc (act.0))
+    go (Ok None) is act =
+        let refused : Result (Option Reply) Refusal = Err refusal in
+        record {
+          full = is_no_memory refused;
+          no_room = act.0.act.full;
+          outcome = ap (λ (a : Result (Option Reply) Refusal). begun_to a (start (is_no_memory refused))) is
+              ∙ sym act.0.act.answers;
+        }
+
+-- and, where the queue of its name was found, so
+pub refused_found : (s : Sessioned) (client : Client) (r : Request) (queue : SlotId) (result : Result (Option Reply) Refusal)
+    → IsPlaced s.broker r.name (Ok queue) → IfErr result (IsRefusedIn s queue.0 client r)
+    → IfErr result (IsRefusedAt s client r)
+refused_found s client r queue (Ok began) placed refused = tt
+refused_found s client r queue (Err refusal) placed refused =
+    record { place = Ok queue; placed = placed; refused = refused }
+
+-- why a creation is not begun
+pub not_created : (b : Brokered) (name : List ℕ) (refusal : Refusal) → IsNotCreated b name refusal
+    → IsWhyNotCreated b name refusal
+not_created b name BadName why = why
+not_created b name NotReady why = why.1
+not_created b name Busy why = why.1
+not_created b name Exists why = (why.1, why.3)
+not_created b name DirectoryFull why = (why.0.ready, why.1)
+not_created b name _ why = absurd why

@@ -1,14 +1,17 @@
 -- What the order of a queue says of the calls of a list: those that were answered, and those that a crash ended.
-use Rattle.std.proofs.Common.{◌≡◌, ◌<◌, ◌∙◌, ℕ, List, Some, slice_get, ap, subst, arith}
+use Rattle.std.proofs.Common.{◌≡◌, ◌<◌, ◌∙◌, ℕ, List, [], None, Option, Some, refl, slice_get, ap, sym, subst, arith}
 use Rattle.std.proofs.lemmas.List.Elements.{All-contains}
-use Rattle.std.proofs.lemmas.Option.{slice_get-get_or, slice_get_within}
+use Rattle.std.proofs.lemmas.Option.{same_Some, slice_get-get_or, slice_get_within}
+use Rattle.words.specs.PlainQueue.{Value, reply_of}
 use Rattle.words.specs.declared.call.Call.{Call}
 use Rattle.words.specs.declared.call.Client.{Client}
 use Rattle.words.specs.declared.call.Kind.{Kind}
 use Rattle.words.specs.declared.call.Kind.TheVariants.{Log as log_kind}
 use Rattle.words.specs.declared.call.Reply.{Reply}
 use Rattle.events.specs.History.{CallAt, IsDurable, IsUnnumbered}
+use Rattle.events.specs.Replay.{IsServed, call_at, call_of}
 use Rattle.events.specs.Telling.{IsToldIfInterrupted}
+use Rattle.events.specs.declared.event.Entry.{Entry as OrderEntry}
 use Rattle.events.specs.declared.event.Event.{Event}
 use Rattle.events.specs.declared.event.Event.TheVariants.{Call as call_event, Return as return_event}
 use Rattle.events.specs.declared.event.Event.TheVariants.{Crash as crash_event, Ready as ready_event}
@@ -23,7 +26,7 @@ use Rattle.session.specs.Promises.{KeepsNumbers}
 use Rattle.session.specs.Requests.{number_or_zero}
 use Rattle.session.specs.Sessions.{Sessioned}
 use Rattle.session.proofs.Facts.{holds_there}
-use Rattle.workers.specs.Accounts.{IsAnsweredAs, IsToldOfCall}
+use Rattle.workers.specs.Accounts.{ArePlainRepliesFit, IsAnsweredAs, IsReplyTo, IsToldOfCall}
 use Rattle.workers.specs.Lists.{HasEndedAs, HasEntryAt, IsRecorded, IsRunRight, events_of}
 use Rattle.workers.specs.declared.entry.End.{End}
 use Rattle.workers.specs.declared.entry.End.TheVariants.{Answered, Interrupted}
@@ -53,6 +56,14 @@ not_durable w holds log (k, event, lt, is, unnumbered) =
     go (return_event client reply) at zero = zero
     go crash_event at zero = zero
     go (ready_event told) at zero = zero
+
+-- an entry that has the plain queue's reply to its call
+fits_by : (events : List Event) (queue : List Value) (entry : OrderEntry) (call : Call) → IsServed events queue entry
+    → call_at events entry.place ≡ Some call → IsReplyTo call entry.reply
+fits_by events queue entry call served at = record {
+  queue = queue;
+  is = served.reply ∙ ap (reply_of queue) (same_Some served.call call (sym served.names ∙ at));
+}
 
 module _ (since : ℕ → ℕ) (s : Sessioned) (client : Client) (list : List Entry) (slot place : ℕ) (w : State)
     (keeps : KeepsNumbers s) (recorded : IsRecorded since s client list) (here : world_at s.broker slot ≡ Some w)
@@ -89,3 +100,32 @@ module _ (since : ℕ → ℕ) (s : Sessioned) (client : Client) (list : List En
         taken = (explained.explains.answers place (slice_get_within w.log.events place _ right.call)).taken
             returned.end client reply (_, (_, right.call)) returned.ends returned.returns;
       }
+
+  pub answered_fits : (reply : Reply) → has.entry.end ≡ Answered reply → IsReplyTo has.entry.call reply
+  answered_fits reply is =
+      let taken = (answered_taken reply is).taken in
+      let entry : OrderEntry = record { place = place; reply = reply } in
+      let at : slice_get (order_in w) taken.0 ≡ Some entry =
+      slice_get-get_or (order_in w) taken.0 entry taken.1 ∙ ap (λ (x : OrderEntry). Some x) taken.2 in
+      fits_by w.log.events _ entry has.entry.call ((explained.explains.replays taken.0 taken.1).served entry at)
+      (ap call_of right.call)
+
+-- a call that has no number ran, and is replied as the plain queue may
+pub plain_fits : (since : ℕ → ℕ) (s : Sessioned) (client : Client) (list : List Entry) → KeepsNumbers s
+    → IsRecorded since s client list → ArePlainRepliesFit s client list
+plain_fits since s client list keeps recorded k e reply at plain is = go e.place refl
+  where
+    in_world : (place : ℕ) → e.place ≡ Some place → (o : Option State) → world_at s.broker e.queue.0 ≡ o
+        → IsReplyTo e.call reply
+    in_world place ran None none =
+        let right = (recorded.ran e.queue.0).right k place e at (refl, ran) in
+        let nowhere : CallAt [] place client (number_or_zero e.number) e.call =
+        subst (λ (es : List Event). CallAt es place client (number_or_zero e.number) e.call) (ap events_of none) right.call in
+        absurd (cc nowhere)
+    in_world place ran (Some w) here =
+        answered_fits since s client list e.queue.0 place w keeps recorded here
+        (record { index = k; entry = e; at = at; ran = (refl, ran) }) reply is
+
+    go : (o : Option ℕ) → e.place ≡ o → IsReplyTo e.call reply
+    go (Some place) ran = in_world place ran (world_at s.broker e.queue.0) refl
+    go None none = let kept = recorded.kept k e at none in absurd (cc (kept.number_is, plain))

@@ -87,20 +87,9 @@ module _ (first now : Brokered) (was : Bool) (came : CameThrough first was now) 
   found_in name (Ok None) some none = found_none name none
   found_in name (Ok (Some found)) some none = found_slot name found some
 
-  -- in a copy of the directory
-  pub listed_still : (copy : Directory) → length copy ≡ 8
-      → ((slot : ℕ) → slot < 8 → slice_get copy slot ≡ slice_get now.directory slot)
-      → IsListedOf first.directory copy
-  listed_still copy count same = record {
-    listed = record {
-      count = count;
-      once = λ i j p q has_p has_q named.
-          listed_now.once i j p q (there i (Some p) has_p) (there j (Some q) has_q) named;
-    };
-    queues = λ slot queue has.
-        let still = queues_through first was now came slot queue has in
-        same slot (omega (arith, slice_get_within now.directory slot (Some queue) still, listed_now.count)) ∙ still;
+  -- in the directory
+  pub listed_still : IsListedOf first.directory now.directory
+  listed_still = record {
+    listed = listed_now;
+    queues = λ slot queue has. queues_through first was now came slot queue has;
   }
-    where
-      there : (slot : ℕ) (x : Option Queue) → slice_get copy slot ≡ Some x → slice_get now.directory slot ≡ Some x
-      there slot x at = sym (same slot (omega (arith, slice_get_within copy slot x at, count))) ∙ at

@@ -2,7 +2,7 @@ use Rattle.std.proofs.Common.{◌≡◌, ◌∙◌, ◌++◌, [], List, ap, appe
 use Rattle.std.specs.Prelude.{slice_set}
 use Rattle.roll.specs.Rule.{keeper, place_of, row_of, rows_of}
 use Rattle.workers.specs.declared.deeds.Deed.{Deed}
-use Rattle.workers.proofs.lists.Receipts.{set_same}
+use Rattle.workers.proofs.lists.SameRow.{set_same}
 use Rattle.workers.proofs.deeds.Register.hear.Goals as goal
 
 pub returns-clause-keeper : goal.returns-clause-keeper

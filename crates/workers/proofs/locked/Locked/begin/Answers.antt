@@ -1,20 +1,24 @@
-use Rattle.std.proofs.Common.{subst, Err}
-use Rattle.named.specs.Brokers.{Brokered}
-use Rattle.named.specs.Finding.{IsPlaced}
-use Rattle.workers.proofs.guard.Refusals.{unplaced, unplaced_settled}
+use Rattle.std.proofs.Common.{◌∙◌, ap, Ok}
+use Rattle.workers.proofs.guard.Laters.{later_still}
+use Rattle.workers.proofs.lists.Answers.{settled_refused, settled_replies, settled_runs_not}
 use Rattle.workers.proofs.locked.Locked.begin.Goals as goal
 
-pub returns-in-Err-clause-errors : goal.returns-in-Err-clause-errors
-returns-in-Err-clause-errors g c =
-    let r = c.args.request.now in
-    let refusal = c.in-Err.refusal in
-    let placed = subst (λ (b : Brokered). IsPlaced b r.name (Err refusal)) c.broker.ensures.broker c.in-Err.ensures in
-    unplaced g.J.Naming.clients g.J.Naming.first _ c.self.invariant.1 c.args.seat.list.items r refusal placed
+pub returns-in-Ok-Some-clause-settled : goal.returns-in-Ok-Some-clause-settled
+returns-in-Ok-Some-clause-settled g c = λ reply was.
+    let same = settled_replies reply c.in-Ok-Some.reply _ (c.in-Ok-Some.is ∙ ap Ok c.in-Ok-Some.field-0-is)
+    (c.begin_found-seat.ensures.settled reply was) in
+    cc (same)
+
+pub returns-in-Ok-Some-clause-later : goal.returns-in-Ok-Some-clause-later
+returns-in-Ok-Some-clause-later g c =
+    later_still c.args.before c.mark_after-marked.result c.mark_further-seat.result.1 c.mark_after-marked.ensures.before
+    c.mark_further-seat.ensures.before
+
+pub returns-in-Ok-None-clause-settled : goal.returns-in-Ok-None-clause-settled
+returns-in-Ok-None-clause-settled g c = λ reply was.
+    absurd (settled_runs_not reply _ (c.in-Ok-None.is ∙ ap Ok c.in-Ok-None.field-0-is)
+    (c.begin_found-seat.ensures.settled reply was))
 
 pub returns-in-Err-clause-settled : goal.returns-in-Err-clause-settled
 returns-in-Err-clause-settled g c = λ reply was.
-    let r = c.args.request.now in
-    let refusal = c.in-Err.refusal in
-    let placed = subst (λ (b : Brokered). IsPlaced b r.name (Err refusal)) c.broker.ensures.broker c.in-Err.ensures in
-    unplaced_settled g.J.Naming.clients g.J.Naming.first _ c.self.invariant.1 c.args.seat.client r reply was refusal
-    placed
+    settled_refused reply c.in-Err.refusal _ c.in-Err.is (c.begin_found-seat.ensures.settled reply was)

@@ -1,10 +1,11 @@
 use Rattle.std.proofs.Common.{sym, ap, subst, ◌∙◌, [], Err, Ok}
 use Rattle.directory.specs.Directory.{IsNamed}
 use Rattle.workers.specs.Following.{Held}
+use Rattle.workers.specs.Seen.{IsRefusedIn}
 use Rattle.roll.specs.Rule.{keeper, rows_of}
 use Rattle.session.specs.Requests.{answer_to, number_or_zero}
 use Rattle.workers.proofs.guard.Guarded.{with_rows}
-use Rattle.workers.proofs.guard.Refusals.{settled_start, why_refused}
+use Rattle.workers.proofs.guard.Refusals.{refused_in, settled_start, why_refused}
 use Rattle.workers.proofs.guard.Notes.{booked_same, created_same}
 use Rattle.workers.proofs.guard.SeatCalls.{begun_beside, guarded_begun, guarded_unbegun}
 use Rattle.workers.proofs.locked.Locked.begin_in.Goals as goal
@@ -58,6 +59,13 @@ returns-in-Err-clause-errors g c =
     let e = c.in-Err.ensures in
     why_refused g.J.Naming.clients g.J.Naming.first _ c.self.invariant.1 c.args.seat.client c.args.seat.list.items
     c.known.ensures.known c.requires.idle c.args.queue r named c.begin.new.self r.call c.in-Err.refusal e.begun e.stale
+
+pub returns-in-Err-clause-refused : goal.returns-in-Err-clause-refused
+returns-in-Err-clause-refused g c =
+    let r = c.args.request.now in
+    subst (λ (v : Held). IsRefusedIn v.session c.args.queue.0 c.args.seat.client r c.in-Err.refusal) c.self.view_is
+    (refused_in c.self.inside.session c.begin.new.self c.args.queue.0 c.args.seat.client r c.in-Err.refusal
+    c.in-Err.ensures.begun)
 
 pub returns-in-Err-clause-settled : goal.returns-in-Err-clause-settled
 returns-in-Err-clause-settled g c = λ reply was.

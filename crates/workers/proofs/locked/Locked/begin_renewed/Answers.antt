@@ -1,9 +1,7 @@
-use Rattle.std.proofs.Common.{[], ap, sym, subst, ◌∙◌, true, length, List}
+use Rattle.std.proofs.Common.{ap, sym, true, length, List}
 use Rattle.events.specs.declared.event.Event.{Event}
-use Rattle.roll.specs.Rule.{keeper, rows_of}
-use Rattle.workers.specs.Deeds.{CameBy}
+use Rattle.roll.specs.Rule.{rows_of}
 use Rattle.workers.specs.Deeds.CameBy.{renewal}
-use Rattle.workers.specs.declared.deeds.Deed.{Deed}
 use Rattle.workers.specs.Following.{beginnings}
 use Rattle.workers.proofs.brokers.Comings.{through_renewal}
 use Rattle.workers.proofs.guard.Notes.{booked_none, created_none}
@@ -16,8 +14,7 @@ use Rattle.workers.proofs.locked.Locked.begin_renewed.Goals as goal
 pub invariant_of-self-2 : goal.invariant_of-self-2
 invariant_of-self-2 g c =
     let e = c.in_default.ensures in
-    let a = c.all_emptied-seats.ensures in
-    let k = c.enter.ensures.keeper in
+    let a = c.all_emptied.ensures in
     let well = c.self.invariant.1 in
     let old = c.self.inside.session in
     let new = c.renew.new.session in (
@@ -25,21 +22,20 @@ invariant_of-self-2 g c =
       record {
         beginning = well.beginning;
         clients = a.clients;
-        followed = rows_begun (beginnings g.J.Naming.first true) new (rows_of c.all_emptied-seats.new.keeper)
+        followed = rows_begun (beginnings g.J.Naming.first true) new (rows_of c.all_emptied.new.keeper)
             (λ at. sym (ap (λ (es : List Event). length es)
             (renewed_empty old.broker new.broker c.args.slot.0 e.promises.broker.well e.renewed at))) a.rows;
-        named = named_begun new.broker.directory (rows_of c.all_emptied-seats.new.keeper) a.rows;
+        named = named_begun new.broker.directory (rows_of c.all_emptied.new.keeper) a.rows;
         promises = e.promises;
         creation = known_if_renewed old.broker new.broker c.self.inside.creating c.args.slot.0 e.may e.renewed well.creation;
         goes_on = session_further g.J.Naming.first old new well.goes_on e.goes_on;
         came = through_renewal g.J.Naming.first.broker c.self.inside.rotated old.broker new.broker c.args.slot.0 well.came
             well.promises.broker e.renewed;
-        done = subst (λ (rows : List (List Deed)). CameBy g.J.Naming.first.broker rows new.broker)
-            (sym (ap (λ m. m.0.rows) k.1)) (renewal well.done well.promises.broker e.renewed);
+        done = renewal well.done well.promises.broker e.renewed;
         later = all_later c.self.inside.marks old new well.later
             (later_renewed old old new c.args.slot.0 (later_itself old) e.goes_on well.promises.broker e.renewed);
       },
-      (k.0, k.1 ∙ sym (ap (λ m. (keeper m.0.rows, [])) k.1)),
+      c.self.invariant.2,
       booked_none g.J.Naming.roll.changes g.J.Naming.first.broker.words.kept old.broker new.broker c.self.inside.creating c.self.inside.creating c.self.inside.book
           c.renew.new.book c.self.invariant.3 e.on
           (created_none c.self.inside.creating new.broker.creation 0 e.renewed.booted.creation),

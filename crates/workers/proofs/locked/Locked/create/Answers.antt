@@ -2,11 +2,12 @@ use Rattle.std.proofs.Common.{rules, None, ap, sym, subst, ◌∙◌, ◌≡◌}
 use Rattle.workers.specs.declared.locked.Creating.TheVariants.{UnderWay}
 use Rattle.session.specs.Sessions.{Sessioned}
 use Rattle.roll.specs.Rule.{rows_of}
-use Rattle.workers.specs.Following.{IsGuardedWell, guarded_in}
+use Rattle.workers.specs.Following.{Held, IsGuardedWell, guarded_in}
 use Rattle.workers.specs.Noting.{IsBooked}
 use Rattle.workers.proofs.guard.Notes.{booked_back, booked_more, created_first}
 use Rattle.workers.proofs.guard.Guarded.{guarded_still, known_if_begun}
-use Rattle.workers.proofs.guard.Refusals.{taken_still}
+use Rattle.workers.specs.Seen.{IsWhyNotCreated}
+use Rattle.workers.proofs.guard.Refusals.{not_created, taken_still}
 use Rattle.workers.proofs.histories.Stops.{created_carried}
 use Rattle.workers.proofs.locked.Locked.create.Goals as goal
 
@@ -57,6 +58,25 @@ invariant_of-self-2 g c =
           (ap (λ (s : Sessioned). s.broker.words.kept) c.create.ensures.others)
           (created_first old.broker new.broker _ _ e.under_way e.begun),
     )
+
+pub returns-then-matches-clause-errors : goal.returns-then-matches-clause-errors
+returns-then-matches-clause-errors g c =
+    let name = c.args.queue.now.name in
+    subst (λ (v : Held). IsWhyNotCreated v.session.broker name c.why_busy.result) c.self.view_is (c.why_busy.ensures name)
+
+pub returns-then-not-promise-clause-errors : goal.returns-then-not-promise-clause-errors
+returns-then-not-promise-clause-errors g c =
+    let name = c.args.queue.now.name in
+    let busy = c.why_busy-then-not-promise in
+    subst (λ (v : Held). IsWhyNotCreated v.session.broker name busy.result) c.self.view_is (busy.ensures name)
+
+pub returns-in-Err-clause-errors : goal.returns-in-Err-clause-errors
+returns-in-Err-clause-errors g c =
+    let name = c.args.queue.now.name in
+    let refusal = c.in-Err.refusal in
+    let bytes : c.as_bytes.result.now ≡ name = search rules in
+    subst (λ (v : Held). IsWhyNotCreated v.session.broker name refusal) c.self.view_is
+    (not_created c.self.inside.session.broker name refusal (rw (← bytes) c.in-Err.ensures.errors))
 
 pub returns-clause-taken : goal.returns-clause-taken
 returns-clause-taken g c = λ has.

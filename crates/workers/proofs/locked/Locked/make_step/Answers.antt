@@ -1,14 +1,12 @@
-use Rattle.std.proofs.Common.{[], subst, sym, ap, ◌∙◌, ◌+◌, ◌≤◌, Ok}
+use Rattle.std.proofs.Common.{subst, sym, ap, ◌∙◌, ◌+◌, ◌≤◌, Ok}
 use Rattle.persist.specs.Noted.{answer_in}
-use Rattle.roll.specs.Rule.{keeper, rows_of}
 use Rattle.workers.specs.Creating.{IsCreationKnown}
 use Rattle.workers.specs.Following.{Held}
 use Rattle.workers.specs.Noting.{to_create}
 use Rattle.workers.specs.declared.locked.Creating.{Creating}
 use Rattle.workers.specs.declared.locked.Creating.TheVariants.{Nothing}
 use Rattle.workers.proofs.guard.Notes.{booked_less, booked_promised, created_step, one_left, promised_less}
-use Rattle.workers.proofs.guard.Guarded.{done_by_last, guarded_still, known_after_last, known_after_step, under_way_is}
-use Rattle.workers.proofs.guard.Guarded.{with_deeds}
+use Rattle.workers.proofs.guard.Guarded.{guarded_still, known_after_last, known_after_step, under_way_is}
 use Rattle.workers.proofs.seats.QueuesSeen.{free_before}
 use Rattle.workers.proofs.histories.Stops.{creation_carried, creation_free}
 use Rattle.workers.proofs.locked.Locked.make_step.Goals as goal
@@ -65,7 +63,6 @@ invariant_of-self-then-not-has g c =
 pub invariant_of-self-in-Ok-Some : goal.invariant_of-self-in-Ok-Some
 invariant_of-self-in-Ok-Some g c =
     let e = c.create_step_noted-act.ensures in
-    let k = c.enter-receipt.ensures.keeper in
     let old = c.self.inside.session in
     let new = c.create_step_noted-act.new.self in
     let answer = answer_in c.create_step_noted-act.result in
@@ -75,15 +72,11 @@ invariant_of-self-in-Ok-Some g c =
     let has = under_way_is old.broker known in
     let is = sym c.noted.ensures.answer ∙ (c.in-Ok-Some.is ∙ ap Ok c.in-Ok-Some.field-0-is) in (
       c.self.invariant.0,
-      with_deeds g.J.Naming.clients g.J.Naming.first _ _ (rows_of c.enter-receipt.new.self.keeper)
-          (ap (λ m. m.0.rows) k.1)
-          (guarded_still g.J.Naming.clients g.J.Naming.first _ well new Nothing
+      guarded_still g.J.Naming.clients g.J.Naming.first _ well new Nothing
           (λ u. creation_carried old new well.promises has.0 answer e.others has.1 e.step u) e.promises
           (record { numbers = e.goes_on; queues = e.queues })
-          (known_after_last old.broker new.broker known answer c.in-Ok-Some.slot is e.step).0)
-          (rw c.copied.ensures (done_by_last old.broker new.broker known g.J.Naming.first.broker answer c.in-Ok-Some.slot
-          c.args.queue.now is (c.has.ensures c.if-not-has.false) e.step well.done)),
-      (k.0, k.1 ∙ sym (ap (λ m. (keeper m.0.rows, [])) k.1)),
+          (known_after_last old.broker new.broker known answer c.in-Ok-Some.slot is e.step).0,
+      c.self.invariant.2,
       booked_less g.J.Naming.roll.changes g.J.Naming.first.broker.words.kept old.broker new.broker c.self.inside.creating
           Nothing c.self.inside.book c.noted.new.book c.self.invariant.3 (c.noted.ensures.on _ _ e.noted)
           c.noted.ensures.less
@@ -108,6 +101,9 @@ returns-else-not-has-clause-made g c =
           well.promises.broker.well.listed c.in-Ok-Some.slot.0
           (creation_free old new well.promises has.0 answer e.others has.1 e.step c.in-Ok-Some.slot is),
     )
+
+pub returns-else-not-has-clause-there : goal.returns-else-not-has-clause-there
+returns-else-not-has-clause-there g c = c.has.ensures c.if-not-has.false
 
 pub noted-requires : goal.noted-requires
 noted-requires g c =

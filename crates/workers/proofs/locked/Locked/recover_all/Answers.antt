@@ -15,34 +15,18 @@ loop-ready-init g c = record {
   over = λ is. absurd (true≢false (sym is));
 }
 
-pub loop-ready-preserved-in-Ok : goal.loop-ready-preserved-in-Ok
-loop-ready-preserved-in-Ok g c =
-    let step = c.recover_promised-step.ensures in
-    let i = c.loop-ready.invariant in
-    record {
-      goes_on = broker_goes_further c.args.self.now.session.broker c.loop-ready.self.session.broker
-          c.recover_promised-step.new.self.session.broker i.goes_on step.goes_on;
-      room = step.room i.room;
-      promised = promised_on c.loop-ready.self.promised c.recover_promised-step.new.self.promised
-          (steps_left c.loop-ready.self.session.broker) (steps_left c.recover_promised-step.new.self.session.broker) i.promised
-          step.less
-          (subst (λ (r : Result Bool Refusal). IfOk r (λ ready. steps_left c.recover_promised-step.new.self.session.broker
-          < steps_left c.loop-ready.self.session.broker)) c.in-Ok.is step.falls);
-      over = λ is. step.ready (ap is_ready_after c.in-Ok.is ∙ is);
-    }
-
 pub loop-ready-preserved : goal.loop-ready-preserved
 loop-ready-preserved g c =
-    let step = c.recover_promised-step.ensures in
+    let step = c.recover_promised.ensures in
     let i = c.loop-ready.invariant in
     record {
       goes_on = broker_goes_further c.args.self.now.session.broker c.loop-ready.self.session.broker
-          c.recover_promised-step.new.self.session.broker i.goes_on step.goes_on;
+          c.recover_promised.new.self.session.broker i.goes_on step.goes_on;
       room = step.room i.room;
-      promised = promised_on c.loop-ready.self.promised c.recover_promised-step.new.self.promised
-          (steps_left c.loop-ready.self.session.broker) (steps_left c.recover_promised-step.new.self.session.broker) i.promised
+      promised = promised_on c.loop-ready.self.promised c.recover_promised.new.self.promised
+          (steps_left c.loop-ready.self.session.broker) (steps_left c.recover_promised.new.self.session.broker) i.promised
           step.less
-          (subst (λ (r : Result Bool Refusal). IfOk r (λ ready. steps_left c.recover_promised-step.new.self.session.broker
+          (subst (λ (r : Result Bool Refusal). IfOk r (λ ready. steps_left c.recover_promised.new.self.session.broker
           < steps_left c.loop-ready.self.session.broker)) c.in-Ok.is step.falls);
       over = λ is. step.ready (ap is_ready_after c.in-Ok.is ∙ is);
     }

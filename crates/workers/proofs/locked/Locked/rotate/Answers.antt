@@ -1,11 +1,9 @@
-use Rattle.std.proofs.Common.{[], ap, sym, subst, ◌∙◌, true, length, List}
+use Rattle.std.proofs.Common.{ap, sym, ◌∙◌, true, length, List}
 use Rattle.events.specs.declared.event.Event.{Event}
 use Rattle.named.specs.Brokers.{Brokered}
 use Rattle.interleave.specs.Calls.{is_no_memory}
-use Rattle.roll.specs.Rule.{keeper, rows_of}
-use Rattle.workers.specs.Deeds.{CameBy}
+use Rattle.roll.specs.Rule.{rows_of}
 use Rattle.workers.specs.Deeds.CameBy.{rotation}
-use Rattle.workers.specs.declared.deeds.Deed.{Deed}
 use Rattle.workers.specs.Following.{beginnings}
 use Rattle.workers.proofs.brokers.Comings.{through_rotation}
 use Rattle.workers.proofs.guard.Notes.{booked_same, created_same}
@@ -18,8 +16,7 @@ use Rattle.workers.proofs.locked.Locked.rotate.Goals as goal
 pub invariant_of-self-2 : goal.invariant_of-self-2
 invariant_of-self-2 g c =
     let e = c.in_default.ensures in
-    let a = c.all_emptied-seats.ensures in
-    let k = c.enter.ensures.keeper in
+    let a = c.all_emptied.ensures in
     let well = c.self.invariant.1 in
     let old = c.self.inside.session in
     let new = c.rotate.new.self in (
@@ -27,21 +24,20 @@ invariant_of-self-2 g c =
       record {
         beginning = well.beginning;
         clients = a.clients;
-        followed = rows_begun (beginnings g.J.Naming.first true) new (rows_of c.all_emptied-seats.new.keeper)
+        followed = rows_begun (beginnings g.J.Naming.first true) new (rows_of c.all_emptied.new.keeper)
             (λ slot. sym (ap (λ (es : List Event). length es) (rotated_empty old.broker new.broker e.rotated slot))) a.rows;
-        named = named_begun new.broker.directory (rows_of c.all_emptied-seats.new.keeper) a.rows;
+        named = named_begun new.broker.directory (rows_of c.all_emptied.new.keeper) a.rows;
         promises = e.promises;
         creation = known_if_same old.broker new.broker c.self.inside.creating
             (ap (λ (b : Brokered). b.recovery) e.rotated.same) (ap (λ (b : Brokered). b.creation) e.rotated.same)
             well.creation;
         goes_on = session_further g.J.Naming.first old new well.goes_on e.goes_on;
         came = through_rotation g.J.Naming.first.broker c.self.inside.rotated old.broker new.broker well.came well.promises.broker e.rotated;
-        done = subst (λ (rows : List (List Deed)). CameBy g.J.Naming.first.broker rows new.broker)
-            (sym (ap (λ m. m.0.rows) k.1)) (rotation well.done well.promises.broker e.rotated);
+        done = rotation well.done well.promises.broker e.rotated;
         later = all_later c.self.inside.marks old new well.later
             (later_rotated old old new (later_itself old) e.goes_on well.promises.broker e.rotated);
       },
-      (k.0, k.1 ∙ sym (ap (λ m. (keeper m.0.rows, [])) k.1)),
+      c.self.invariant.2,
       booked_same g.J.Naming.roll.changes g.J.Naming.first.broker.words.kept old.broker new.broker c.self.inside.creating c.self.inside.creating c.self.inside.book
           c.self.invariant.3 (ap (λ (b : Brokered). b.words.kept) e.rotated.same)
           (created_same c.self.inside.creating old.broker.creation new.broker.creation

@@ -1,10 +1,11 @@
 use Rattle.std.proofs.Common.{◌∙◌, ap, Ok}
+use Rattle.workers.proofs.guard.Laters.{later_itself, later_still}
 use Rattle.workers.proofs.lists.Answers.{begun_open, remembers, settled_refused, settled_replies, settled_runs_not}
 use Rattle.workers.proofs.lists.Answers.{under_way_begun}
 use Rattle.workers.proofs.shared.Shared.call.Goals as goal
 
-pub go_on-requires : goal.go_on-requires
-go_on-requires g c =
+pub go_on_marked-requires : goal.go_on_marked-requires
+go_on_marked-requires g c =
     let r = c.args.request in
     let old = c.with_room-seat.result.0.list.items in
     let way = under_way_begun old r _ _ (c.in-Ok-None.is ∙ ap Ok c.in-Ok-None.field-0-is) c.begin-seat.ensures.begun in
@@ -15,7 +16,7 @@ returns-in-Ok-None-clause-entry g c =
     let r = c.args.request in
     let old = c.with_room-seat.result.0.list.items in
     let way = under_way_begun old r _ _ (c.in-Ok-None.is ∙ ap Ok c.in-Ok-None.field-0-is) c.begin-seat.ensures.begun in
-    rw (← c.with_room-seat.ensures.same.1) (remembers old r _ _ c.go_on.result.1 way c.go_on.ensures.finishes)
+    rw (← c.with_room-seat.ensures.same.1) (remembers old r _ _ c.go_on_marked.result.2 way c.go_on_marked.ensures.finishes)
 
 pub returns-in-Ok-None-clause-settled : goal.returns-in-Ok-None-clause-settled
 returns-in-Ok-None-clause-settled g c = λ reply was.
@@ -31,3 +32,14 @@ pub returns-in-Err-clause-settled : goal.returns-in-Err-clause-settled
 returns-in-Err-clause-settled g c = λ reply was.
     settled_refused reply c.in-Err.refusal _ c.in-Err.is
     (c.begin-seat.ensures.settled reply (rw c.with_room-seat.ensures.same.0 was))
+
+pub returns-then-is_open-clause-later : goal.returns-then-is_open-clause-later
+returns-then-is_open-clause-later g c = later_itself c.args.before
+
+pub returns-then-not-room-clause-later : goal.returns-then-not-room-clause-later
+returns-then-not-room-clause-later g c = later_itself c.args.before
+
+pub returns-in-Ok-None-clause-later : goal.returns-in-Ok-None-clause-later
+returns-in-Ok-None-clause-later g c =
+    later_still c.args.before c.begin-seat.result.1 c.go_on_marked.result.1 c.begin-seat.ensures.later
+    c.go_on_marked.ensures.later

@@ -7,7 +7,7 @@ use Rattle.workers.specs.Noting.{IsBookOn, to_create}
 use Rattle.workers.proofs.guard.Notes.{booked_none, booked_same, created_same, created_stopped}
 use Rattle.workers.proofs.guard.Guarded.{guarded_still, guarded_stopped, known_after_crash, known_if_same}
 use Rattle.workers.proofs.histories.Stops.{crash_refused_carried, crashed_carried}
-use Rattle.workers.proofs.locked.Locked.crash.Goals as goal
+use Rattle.workers.proofs.locked.Locked.stop.Goals as goal
 
 pub invariant_of-self : goal.invariant_of-self
 invariant_of-self g c =
