@@ -1,5 +1,5 @@
 -- What a call is answered, after one that was left open.
-use Rattle.std.proofs.Common.{◌≡◌, true, ℕ, List, Option, Some, Result, Ok, Err, refl, sym, subst, inl, inr}
+use Rattle.std.proofs.Common.{◌≡◌, true, ℕ, List, Option, None, Some, Result, Ok, Err, refl, sym, subst, inl, inr}
 use Rattle.words.specs.declared.refusal.Refusal.{Refusal}
 use Rattle.words.specs.declared.refusal.Refusal.TheVariants.{NoQueue, NoRoom, NotReady}
 use Rattle.words.specs.declared.call.Client.{Client}

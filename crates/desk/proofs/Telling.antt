@@ -95,7 +95,7 @@ replied_in_turn clients first start now served nothing = replied_none first star
 replied_in_turn clients first start now served (marked {before = before} turn later) =
     all_later_told first before now served (replied_in_turn clients first start before served turn) later
 replied_in_turn clients first start now served
-    (answered {served = old} {before = before} {request = request} {answer = answer} turn is) =
+    (answered {served = old} {before = before} request answer turn is) =
     told_push first now old request answer
     (all_later_told first before now old (replied_in_turn clients first start before old turn)
     (later_still before is.session now is.earlier is.later))

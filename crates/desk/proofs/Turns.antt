@@ -67,7 +67,7 @@ turn_more clients first (Some before) None old new request made answer turn is s
 turn_more clients first (Some before) (Some now) old new request made answer turn is same noted =
     subst (λ (l : List (Request × Answer)). IsServedInTurn clients first l now)
     (sym (noted ∙ ap (λ (r : Request). old ++ (r, answer) ∷ []) same))
-    (record { start = turn.start; came = turn.came; turn = answered turn.turn is })
+    (record { start = turn.start; came = turn.came; turn = answered request answer turn.turn is })
 
 -- another mark
 pub turn_marked : (clients : ℕ) (first : Sessioned) (marked : Option Sessioned) (now : Sessioned)

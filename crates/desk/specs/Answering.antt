@@ -166,7 +166,7 @@ pub data AreAnsweredInTurn (clients : ℕ) (first start : Sessioned) : List (Req
   marked : {served : List (Request × Answer)} {before now : Sessioned}
       (turn : AreAnsweredInTurn clients first start served before) (later : GoesOnLater before now)
       → AreAnsweredInTurn clients first start served now
-  answered : {served : List (Request × Answer)} {before now : Sessioned} {request : Request} {answer : Answer}
+  answered : {served : List (Request × Answer)} {before now : Sessioned} (request : Request) (answer : Answer)
       (turn : AreAnsweredInTurn clients first start served before)
       (is : IsAnsweredBetween clients first before now request answer)
       → AreAnsweredInTurn clients first start (served ++ (request, answer) ∷ []) now

@@ -24,6 +24,17 @@ pub record AreAnswered (clients : ℕ) (served : List (Request × Answer)) : Typ
   pub clients_are : (k : ℕ) (request : Request) (answer : Answer) → slice_get served k ≡ Some (request, answer)
       → NamesNoClient clients request → answer ≡ Refused NoClient
 
+-- a desk without a journal: what it has served, the session as it was marked last, and whether it has stopped
+pub record Served : Type 0 where
+  pub served : Chronicled (Request × Answer)
+  pub marked : Option Sessioned
+  pub stopped : Bool
+
+-- each request was answered in turn, up to that session
+pub record IsServed (clients : ℕ) (first : Sessioned) (d : Served) : Type 0 where
+  pub turn : IsServedAtMark clients first (entries d.served) d.marked
+  pub stops : d.stopped ≡ has_stopped (entries d.served)
+
 -- a desk that marks: what it has served, and of that what is settled; the session as it was marked last, and the one of
 -- the last token
 pub record Desked : Type 0 where

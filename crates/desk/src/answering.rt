@@ -2,9 +2,8 @@
 
 ghost use Rattle.std.specs.Prelude.{◌≡◌};
 ghost use Rattle.desk.specs.Answering.{answer_as, creation_on_wire, IsAnsweredBetween, IsCreationAnswer};
-ghost use Rattle.desk.specs.Answering.{IsCrashAt, IsRecoveryAt, IsToldOf, Says};
-ghost use Rattle.wire.specs.declared.answer.Answer.{Answer as AnyAnswer};
-ghost use Rattle.wire.specs.declared.answer.Answer.TheVariants.{Crashed, Queues, Ready};
+ghost use Rattle.desk.specs.Answering.{IsCrashAt, IsRecoveryAt, IsTellingIn, IsToldOf, OfClient, Says};
+ghost use Rattle.wire.specs.declared.answer.Answer.TheVariants.{Crashed, Queues, Ready, Told as told_answer};
 ghost use Rattle.workers.specs.Moments.{GoesOnLater};
 ghost use Rattle.workers.specs.Seen.{IsListing};
 
@@ -25,24 +24,6 @@ fn on_wire(created: Created) -> Answer
         Created::Refused(refusal) => Answer::Refused(refusal),
         Created::Interrupted => Answer::Interrupted,
     }
-}
-
-/// What a connection is told of a queue to be created.
-fn create<J: Naming, R: Wait>(
-    rt: &R,
-    shared: &Shared<J>,
-    before: Marked<J>,
-    queue: Option<Name>,
-    kind: Kind,
-) -> (Marked<J>, Answer)
-    ensures is { IsCreationAnswer result.0.broker queue (λ name. record { name = name; kind = kind }) result.1 }
-    ensures later { GoesOnLater before result.0 }
-{
-    let Some(name) = queue else {
-        return (before, Answer::Refused(Refusal::BadName));
-    };
-    let (marked, created) = shared.create(rt, name.as_bytes(), kind, before);
-    (marked, on_wire(created))
 }
 
 /// All queues.
@@ -68,6 +49,25 @@ fn done(outcome: Result<(), Refusal>, answer: Answer) -> Answer
 }
 
 impl<J: Naming> Counter<'_, J> {
+    /// What a connection is told of a queue to be created.
+    fn create<R: Wait>(
+        &self,
+        rt: &R,
+        before: Marked<J>,
+        queue: Option<Name>,
+        kind: Kind,
+    ) -> (Marked<J>, Answer)
+        ensures is { IsCreationAnswer result.0.broker queue (λ name. record { name = name; kind = kind }) result.1 }
+        ensures later { GoesOnLater before result.0 }
+    {
+        let _work = self.seats.at_work(rt);
+        let Some(name) = queue else {
+            return (before, Answer::Refused(Refusal::BadName));
+        };
+        let (marked, created) = self.shared.create(rt, name.as_bytes(), kind, before);
+        (marked, on_wire(created))
+    }
+
     /// What the client was last told in a queue. It is refused where there is no such client (NoClient), while the
     /// broker recovers (NotReady), and where there is no such queue (NoQueue).
     fn told<R: Wait>(
@@ -88,6 +88,25 @@ impl<J: Naming> Counter<'_, J> {
             return (marked, Err(refusal));
         };
         self.shared.told(rt, client, &name, before)
+    }
+
+    /// What a connection is told of that.
+    fn tell<R: Wait>(
+        &self,
+        rt: &R,
+        before: Marked<J>,
+        number: u64,
+        queue: Option<Name>,
+    ) -> (Marked<J>, Answer)
+        ensures is { OfClient J.clients number result.1
+            (λ client. Says told_answer result.1 (IsTellingIn result.0.broker client queue)) }
+        ensures later { GoesOnLater before result.0 }
+    {
+        let (marked, told) = self.told(rt, before, number, queue);
+        match told {
+            Ok(told) => (marked, Answer::Told(told)),
+            Err(refusal) => (marked, Answer::Refused(refusal)),
+        }
     }
 
     /// The whole system stops.
@@ -120,20 +139,11 @@ impl<J: Naming> Counter<'_, J> {
         ensures { IsAnsweredBetween J.clients J.first before result.0 request result.1 }
     {
         match request {
-            Request::Create { queue, kind } => {
-                let _work = self.seats.at_work(rt);
-                create(rt, self.shared, before, queue, kind)
-            }
+            Request::Create { queue, kind } => self.create(rt, before, queue, kind),
             Request::List => list(rt, self.shared, before),
             Request::Put { client, .. } => self.call(rt, before, client, request),
             Request::Take { client, .. } => self.call(rt, before, client, request),
-            Request::Told { client, queue } => {
-                let (marked, told) = self.told(rt, before, client, queue);
-                match told {
-                    Ok(told) => (marked, Answer::Told(told)),
-                    Err(refusal) => (marked, Answer::Refused(refusal)),
-                }
-            }
+            Request::Told { client, queue } => self.tell(rt, before, client, queue),
             Request::Crash => self.crash(rt, before),
             Request::Recover => self.recover(rt, before),
             Request::Stop => (before, Answer::Stopping),

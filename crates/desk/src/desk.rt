@@ -13,6 +13,7 @@ use engine::Desk;
 use events::copied;
 use seating::Seating;
 use std::alloc::{AllocError, Global};
+use std::marker::Model;
 use std::sync::Wait;
 use wire::{Answer, Request};
 use workers::{Marked, Naming, Shared};
@@ -30,10 +31,22 @@ fn is_stopping(answer: &Answer) -> bool
 pub struct BrokerDesk<'a, J: Naming> {
     counter: Counter<'a, J>,
     /// The requests that were made, with their answers, in order; and those of them that are settled.
-    pub served: Chronicle<(Request, Answer)>,
+    served: Chronicle<(Request, Answer)>,
     stopped: bool,
-    pub ghost turn: { IsServedAtMark J.clients J.first (entries served) counter.marked },
-    ghost stops: { stopped ≡ has_stopped (entries served) },
+}
+
+impl<'a, J: Naming> Model for BrokerDesk<'a, J> {
+    ghost use Rattle.desk.specs.Serving.{IsServed, Served};
+
+    ghost Value = { Served };
+
+    ghost view = { λ d. record { served = d.served; marked = d.counter.marked; stopped = d.stopped } };
+
+    ghost invariant = { λ d. IsServed J.clients J.first (record {
+      served = d.served;
+      marked = d.counter.marked;
+      stopped = d.stopped;
+    }) };
 }
 
 impl<'a, J: Naming> BrokerDesk<'a, J> {
@@ -58,7 +71,7 @@ impl<'a, J: Naming> BrokerDesk<'a, J> {
     /// What it has served: each request was answered in turn, by what the session was then, up to the session as it was
     /// marked last. That mark is handed out.
     pub fn into_mark(self) -> Option<Marked<J>>
-        ensures { IsServedAtMark J.clients J.first (entries self.served) result }
+        ensures { IsServedAtMark J.clients J.first (entries self.entry.served) result }
     {
         self.counter.marked
     }
