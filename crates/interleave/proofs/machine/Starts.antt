@@ -7,7 +7,7 @@ use Rattle.words.specs.declared.call.Call.{Call}
 use Rattle.words.specs.declared.call.Client.{Client}
 use Rattle.words.specs.declared.refusal.Refusal.{Refusal}
 use Rattle.words.specs.declared.refusal.Refusal.TheVariants.{Busy, NoClient, NoMemory, NoRoom, StaleNumber}
-use Rattle.logqueue.specs.Numbers.{is_stale}
+use Rattle.interleave.specs.LogQueue.{is_stale}
 use Rattle.persist.specs.Memory.{Words}
 use Rattle.arena.specs.Layout.{word_at}
 use Rattle.arena.specs.Shape.{Shape}

@@ -14,8 +14,8 @@ use Rattle.words.specs.declared.call.Reply.{Reply}
 use Rattle.words.specs.declared.told.Told.{Told}
 use Rattle.words.specs.declared.told.Told.TheVariants.{None as told_none, Verdict as told_verdict}
 use Rattle.words.specs.declared.limits.TheConstants.{MAX_CLIENTS}
-use Rattle.logqueue.specs.Numbers.{floor_of, new_queue as new_clients}
-use Rattle.logqueue.specs.Queue.{LogClients}
+use Rattle.interleave.specs.LogQueue.{floor_of, new_queue as new_clients}
+use Rattle.interleave.specs.LogQueue.{LogClients}
 use Rattle.arena.specs.Shape.{Shape}
 use Rattle.arena.specs.declared.place.Place.{Place}
 use Rattle.stepper.specs.declared.resume.After.{After}
