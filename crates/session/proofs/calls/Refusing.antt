@@ -22,6 +22,9 @@ pub passed_on : {T : Type 0} (r : Result T Refusal) (e : Refusal) → IsErr r ×
 passed_on (Ok x) e is = absurd (cc (is.0))
 passed_on (Err y) e is = ap Err is.1
 
+pub same_refusal : {T : Type 0} (a b : Refusal) → (let r : Result T Refusal = Err a in r) ≡ Err b → a ≡ b
+same_refusal a b same = cc (same)
+
 pub not_done : {T : Type 0} (P : Type 0) (r : Result T Refusal) (e : Refusal) → IsErr r × IsErrAnd r (λ y. y ≡ e) → OnOk r P
 not_done P (Ok x) e is = absurd (cc (is.0))
 not_done P (Err y) e is = tt

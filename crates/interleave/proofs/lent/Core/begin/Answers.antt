@@ -8,6 +8,7 @@ use Rattle.arena.specs.Shape.{Shape}
 use Rattle.interleave.specs.Calls.{is_no_memory}
 use Rattle.interleave.specs.Core.{CoreState, state_of}
 use Rattle.interleave.specs.State.{after_bump_load, after_call_began, used_by}
+use Rattle.interleave.proofs.machine.Begun.{began, record_is}
 use Rattle.interleave.proofs.machine.Invariants.{room_held}
 use Rattle.interleave.proofs.machine.Starts.{client_in, used_few, used_is}
 use Rattle.interleave.proofs.lent.Core.begin.Goals as goal
@@ -105,3 +106,20 @@ returns-clause-result g c =
     let shape : c.self.inside.layout ≡ old.shape = ap (λ (k : CoreState). k.shape) c.self.view_is in
     let other = differs c.if-used-records.false used c.load_bump-used.ensures.value (c.records-records.ensures.value ∙ ap (λ (s : Shape). s.records) shape) in
     sym (if_other _ _ _ _ other)
+
+pub returns-clause-world : goal.returns-clause-world
+returns-clause-world g c =
+    let old : CoreState = c.args.self.now in
+    let ws : Words = g.M.WordMemory.words c.args.memory.now in
+    let left : Words = g.M.WordMemory.words c.load_bump-used.new.memory in
+    let used = used_is old.shape ws old.queue old.calls old.trace c.args.client c.requires.holds c.requires.idle in
+    let shape : c.self.inside.layout ≡ old.shape = ap (λ (k : CoreState). k.shape) c.self.view_is in
+    let records : c.records-records.result ≡ old.shape.records = c.records-records.ensures.value ∙ ap (λ (s : Shape). s.records) shape in
+    let other = differs c.if-used-records.false used c.load_bump-used.ensures.value records in
+    let begun = record_is old ws c.args.client c.args.number c.args.call c.load_bump-used.result c.records-records.result c.record_number.result
+    (c.load_bump-used.ensures.value ∙ used) records c.record_number.ensures.number in
+    began old c.reserve.new.self c.take_record.new.self ws left _ c.args.client c.args.number c.args.call
+    c.reserve.ensures.same c.load_bump-used.ensures.one_access begun
+    c.take_record.ensures.shape c.take_record.ensures.queue c.take_record.ensures.calls c.take_record.ensures.base c.take_record.ensures.told
+    c.take_record.ensures.events c.take_record.ensures.issued c.take_record.ensures.effects c.take_record.ensures.recovery
+    ∙ sym (if_other _ _ _ _ other)
