@@ -4,6 +4,7 @@ pub mod Rules
 pub mod Recoveries
 pub mod Evictions
 pub mod Starts
+pub mod Begun
 pub mod Steps
 pub mod Calls
 pub mod Acts

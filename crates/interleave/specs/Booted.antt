@@ -5,7 +5,7 @@ use Rattle.words.specs.declared.call.Kind.TheVariants.{Durable as durable_kind, 
 use Rattle.words.specs.declared.told.Told.{Told}
 use Rattle.persist.specs.Memory.{Words, words_after_crash}
 use Rattle.arena.specs.Content.{kept_content}
-use Rattle.logqueue.specs.Numbers.{told_queue}
+use Rattle.interleave.specs.LogQueue.{told_queue}
 use Rattle.words.specs.declared.refusal.Refusal.{Refusal}
 use Rattle.words.specs.declared.refusal.Refusal.TheVariants.{NoMemory}
 use Rattle.arena.specs.Shape.{Shape}

@@ -2,7 +2,7 @@
 use Rattle.std.specs.Prelude.{◌≡◌, ℕ, ◌<◌, List, Some, None, slice_index}
 use Rattle.words.specs.declared.call.Client.{Client}
 use Rattle.words.specs.declared.limits.TheConstants.{MAX_CLIENTS}
-use Rattle.logqueue.specs.Numbers.{floor_of}
+use Rattle.interleave.specs.LogQueue.{floor_of}
 use Rattle.sound_words.specs.Told.{told_by}
 use Rattle.protocol.specs.Machine.{World}
 use Rattle.protocol.specs.declared.UnderWay.{UnderWay}

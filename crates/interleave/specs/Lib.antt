@@ -1,6 +1,8 @@
 pub mod Content
 pub mod Core
 pub mod Stepped
+pub mod DurableQueue
+pub mod LogQueue
 pub mod Queue
 pub mod Calls
 pub mod Points

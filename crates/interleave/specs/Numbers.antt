@@ -5,7 +5,7 @@ use Rattle.words.specs.declared.call.Client.{Client}
 use Rattle.words.specs.declared.call.Reply.{Reply}
 use Rattle.words.specs.declared.limits.TheConstants.{MAX_CLIENTS}
 use Rattle.words.specs.declared.told.Told.{Told}
-use Rattle.logqueue.specs.Numbers.{floor_of}
+use Rattle.interleave.specs.LogQueue.{floor_of}
 use Rattle.events.specs.History.{CallAt, ReturnAt, ReadyAt, BeginsAt}
 use Rattle.events.specs.Orders.{InOrder}
 use Rattle.events.specs.declared.event.Entry.{Entry}

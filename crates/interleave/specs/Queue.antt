@@ -7,8 +7,8 @@ use Rattle.words.specs.declared.refusal.Refusal.{Refusal}
 use Rattle.words.specs.declared.refusal.Refusal.TheVariants.{StaleNumber}
 use Rattle.words.specs.declared.told.Told.{Told}
 use Rattle.words.specs.declared.told.Told.TheVariants.{None as told_none}
-use Rattle.durable.specs.Rows.{no_calls}
-use Rattle.logqueue.specs.Numbers.{is_stale, told_queue, new_queue as new_log_queue}
+use Rattle.interleave.specs.DurableQueue.{no_calls}
+use Rattle.interleave.specs.LogQueue.{is_stale, told_queue, new_queue as new_log_queue}
 use Rattle.interleave.specs.declared.queue.Queue.{Queue}
 use Rattle.interleave.specs.declared.queue.Queue.TheVariants.{Durable, Log}
 

@@ -8,7 +8,7 @@ use Rattle.words.specs.declared.told.Outcome.TheVariants.{Taken}
 use Rattle.words.specs.declared.told.Told.{Told}
 use Rattle.words.specs.declared.told.Told.TheVariants.{None as told_none, Verdict as told_verdict, Row as told_row}
 use Rattle.words.specs.declared.told.Verdict.{Verdict}
-use Rattle.logqueue.specs.Numbers.{floor_of, verdict_of}
+use Rattle.interleave.specs.LogQueue.{floor_of, verdict_of}
 use Rattle.events.specs.Orders.{IsTakenAs}
 use Rattle.protocol.specs.declared.UnderWay.{UnderWay}
 use Rattle.interleave.specs.Numbers.{HasNumber, IsEntryOf}

@@ -5,9 +5,9 @@ ghost use Rattle.interleave.specs.Booted.{queue_at_boot};
 ghost use Rattle.interleave.specs.Rotation.{queue_with_told};
 ghost use Rattle.interleave.specs.Queue.{new_queue, told_in, number_check, after_return, queue_with_reports};
 
-use durable::DurableQueue;
+use crate::durable::DurableQueue;
+use crate::logqueue::LogQueue;
 use events::copied;
-use logqueue::LogQueue;
 use words::{Client, Kind, MAX_CLIENTS, Refusal, Reports};
 
 /// What a queue keeps for its clients, by its kind.

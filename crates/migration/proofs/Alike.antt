@@ -22,7 +22,7 @@ use Rattle.arena.specs.Words.{values_in}
 use Rattle.arena.specs.declared.form.Form.TheVariants.{OfItems, OfValues}
 use Rattle.arena.specs.declared.place.Part.TheVariants.{Length, First, Second, Third}
 use Rattle.arena.specs.declared.place.Place.{Place}
-use Rattle.sound_words.specs.Told.{no_call}
+use Rattle.words.specs.Told.{no_call}
 use Rattle.sound_words.specs.Told.{node_claimed_by, row_in, enqueue_outcome, dequeue_outcome_in, outcome_in, report_in}
 use Rattle.sound_words.specs.Told.{told_in, tells_in}
 use Rattle.sound_words.proofs.Facts.{among_any}

@@ -12,7 +12,7 @@ use Rattle.arena.specs.Place.{IsClient}
 use Rattle.arena.specs.Shape.{Counts, Shape, shape_of}
 use Rattle.arena.specs.declared.broker.TheConstants.{SLOTS}
 use Rattle.sound_words.specs.Kept.{kept_in}
-use Rattle.sound_words.specs.Told.{no_call}
+use Rattle.words.specs.Told.{no_call}
 use Rattle.sound_words.specs.Told.{told_by}
 use Rattle.directory.specs.Directory.{HasQueue}
 use Rattle.directory.specs.Queue.{directory_of}

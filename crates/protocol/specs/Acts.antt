@@ -17,7 +17,7 @@ use Rattle.events.specs.Effects.{order_of}
 use Rattle.events.specs.Explains.{Explains}
 use Rattle.events.specs.History.{IsHistory}
 use Rattle.events.specs.Replay.{queue_after}
-use Rattle.sound_words.specs.Told.{no_call}
+use Rattle.words.specs.Told.{no_call}
 use Rattle.stepper.specs.declared.resume.After.TheVariants.{Done as Ready}
 use Rattle.recover.specs.declared.recovery.Recovery.{Recovery}
 use Rattle.protocol.specs.Kept.{TellsOf}

@@ -21,7 +21,7 @@ use Rattle.arena.specs.Answers.{result_of}
 use Rattle.arena.specs.declared.place.Write.{Write}
 use Rattle.arena.specs.declared.place.Place.{Place}
 use Rattle.arena.specs.declared.place.Place.TheVariants.{Head, Tail, Announcement, Item, Next, Mark, Cell, Insert, Number, EntryKind, Status, EntryNode}
-use Rattle.sound_words.specs.Told.{no_call}
+use Rattle.words.specs.Told.{no_call}
 use Rattle.stepper.specs.Loading.{part_next, loaded_with}
 use Rattle.stepper.specs.Step.{value_found}
 use Rattle.stepper.specs.declared.loading.Loading.{Loading}

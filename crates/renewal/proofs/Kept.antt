@@ -18,7 +18,7 @@ use Rattle.arena.specs.Shape.{Shape}
 use Rattle.arena.specs.Words.{announcements, cells, entry_kinds, statuses, values, values_fit}
 use Rattle.arena.specs.declared.place.Place.{Place}
 use Rattle.sound_words.specs.Sound.{AnswersAreSound, IsSound}
-use Rattle.sound_words.specs.Told.{no_call}
+use Rattle.words.specs.Told.{no_call}
 use Rattle.sound_words.specs.Told.{dequeue_outcome, enqueue_outcome, node_claimed_by, outcome_by, report_on, row_with}
 use Rattle.sound_words.specs.Told.{tells_by, told_by}
 use Rattle.sound_words.proofs.Facts.{told_nobody, told_nothing, told_of}

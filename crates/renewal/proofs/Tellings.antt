@@ -22,7 +22,7 @@ use Rattle.arena.specs.Shape.{Shape}
 use Rattle.arena.specs.Words.{cells, entry_kinds, item_again, marks, numbers, statuses, values}
 use Rattle.arena.specs.declared.place.Place.{Place}
 use Rattle.sound_words.specs.Sound.{IsOnChain}
-use Rattle.sound_words.specs.Told.{no_call}
+use Rattle.words.specs.Told.{no_call}
 use Rattle.sound_words.specs.Told.{dequeue_outcome, node_claimed_by, outcome_by, report_on, row_with, told_by}
 use Rattle.sound_words.proofs.Facts.{among_any, told_empty, told_nothing, told_of}
 use Rattle.renewal.specs.Renewal.{Renewal, item_in, told_in}

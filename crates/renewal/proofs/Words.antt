@@ -18,7 +18,7 @@ use Rattle.arena.specs.declared.place.Place.TheVariants.{Bump}
 use Rattle.arena.proofs.Facts.{queue_fits}
 use Rattle.sound_words.specs.Kept.{kept_in}
 use Rattle.sound_words.specs.Sound.{AreSoundWords}
-use Rattle.sound_words.specs.Told.{no_call}
+use Rattle.words.specs.Told.{no_call}
 use Rattle.sound_words.specs.Told.{told_by}
 use Rattle.sound_words.proofs.Facts.{content_like, sound_like, told_like, told_nobody}
 use Rattle.renewal.specs.Renewal.{Renewal, told_in}

@@ -23,7 +23,7 @@ use Rattle.arena.specs.Words.{bumps}
 use Rattle.arena.specs.declared.place.Place.{Place}
 use Rattle.sound_words.specs.Kept.{kept_in}
 use Rattle.sound_words.specs.Sound.{AreSoundWords}
-use Rattle.sound_words.specs.Told.{no_call}
+use Rattle.words.specs.Told.{no_call}
 use Rattle.sound_words.specs.Told.{tells_by, told_by}
 use Rattle.renewal.specs.Renewal.{Renewal, item_in, told_in}
 use Rattle.renewal.specs.Renewed.{SaysFollower, chain, renewed}

@@ -2,6 +2,7 @@ mod Alike
 mod AlikeTold
 mod Chains
 mod EntrySteps
+mod FirstBroken
 mod Followed
 mod Looked
 mod Noted

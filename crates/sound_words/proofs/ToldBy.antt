@@ -12,7 +12,7 @@ use Rattle.arena.specs.Words.{links, marks, values, cells, entry_kinds, statuses
 use Rattle.arena.specs.Chain.{IsAmong}
 use Rattle.arena.specs.Content.{chain_of}
 use Rattle.arena.specs.declared.place.Place.{Place}
-use Rattle.sound_words.specs.Told.{no_call}
+use Rattle.words.specs.Told.{no_call}
 use Rattle.sound_words.specs.Told.{node_claimed_by, row_with, dequeue_outcome, outcome_by, report_on, told_by}
 use Rattle.sound_words.specs.Sound.{IsOnChain}
 

@@ -1,13 +1,14 @@
 -- What clients are told by kept words: what recovery tells, as a function of the words that the crash left.
 use Rattle.std.specs.Prelude.{ℕ, Bool, List, [], ◌∷◌, map, nat_eq, nat_lt, Option, Some, None, if◌then◌else◌, ◌==◌}
 use Rattle.std.specs.List.{list_any, range_with_len}
+use Rattle.words.specs.Told.{no_call}
 use Rattle.words.specs.declared.call.Kind.{Kind}
 use Rattle.words.specs.declared.call.Kind.TheVariants.{Durable, Log}
 use Rattle.words.specs.declared.call.Reply.TheVariants.{Done, Got, Empty}
 use Rattle.words.specs.declared.told.Outcome.{Outcome}
 use Rattle.words.specs.declared.told.Outcome.TheVariants.{NotTaken, Taken}
 use Rattle.words.specs.declared.told.Row.{Row}
-use Rattle.words.specs.declared.told.Row.TheVariants.{NoCall, Open, Empty as row_empty, Got as row_got}
+use Rattle.words.specs.declared.told.Row.TheVariants.{Open, Empty as row_empty, Got as row_got}
 use Rattle.words.specs.declared.told.Told.{Told}
 use Rattle.words.specs.declared.told.Told.TheVariants.{None as told_none, Verdict as told_verdict, Row as told_row}
 use Rattle.words.specs.declared.limits.TheConstants.{MAX_CLIENTS}
@@ -18,11 +19,6 @@ use Rattle.arena.specs.declared.form.Form.{Form}
 use Rattle.arena.specs.Words.{marks, values_in, cells, numbers, entry_kinds, statuses, announcements}
 use Rattle.arena.specs.Content.{chain_of}
 use Rattle.arena.specs.declared.place.Place.{Place}
-
--- a client that made no call
-abbrev pub no_call : Kind → Told
-no_call Durable = told_row NoCall
-no_call Log = told_none
 
 -- the first of these nodes that the token claims
 abbrev pub node_claimed_by : (Place → ℕ) → ℕ → List ℕ → Option ℕ

@@ -5,7 +5,7 @@ ghost use Rattle.arena.specs.Broker.{block_size_in};
 ghost use Rattle.arena.specs.Layout.{size_in};
 ghost use Rattle.arena.specs.Shape.{greatest};
 ghost use Rattle.sound_words.specs.Kept.{kept_of};
-ghost use Rattle.sound_words.specs.Order.{IsClaimTable, IsOrder, IsSurvey};
+ghost use Rattle.sound_words.specs.Order.{IsSurvey, IsSurveyOf};
 ghost use Rattle.sound_words.specs.Sound.{AreZeroFrom, SizeIsSoundIn, RecordsAreSoundIn};
 ghost use Rattle.sound_words.specs.Sound.{AreSoundWords, AreSoundWordsIn, IsVerdictOn, IsDamaged, IsDamagedIn};
 
@@ -71,11 +71,8 @@ impl<W: KeptWords> KeptQueue<'_, W> {
         requires tokens { greatest self.now.shape < length claimed.old }
         requires no_token { (n : ℕ) → slice_index claimed.old n ≡ 0 }
         ensures broken { IsVerdictOn self.now.form self.now.shape self.now.words result }
-        ensures places { greatest self.now.shape < length place.new }
-        ensures tokens { greatest self.now.shape < length claimed.new }
-        ensures order { IfNone result (IsOrder self.now.shape (kept_of self.now) (λ n. slice_index place.new n)) }
-        ensures claims { IfNone result
-            (IsClaimTable self.now.shape (kept_of self.now) (λ n. slice_index claimed.new n)) }
+        ensures survey { IfNone result
+            (IsSurveyOf self.now.form self.now.shape self.now.words place.new claimed.new) }
     {
         // A link back would keep recovery walking for ever, and a link to an unused record would put a value into the
         // queue before its enqueue took effect: the two queues of bench/plain/every_image_byte.py.

@@ -13,7 +13,7 @@ use Rattle.words.specs.declared.call.Call.{Call}
 use Rattle.words.specs.declared.call.Call.TheVariants.{Enq, Deq}
 use Rattle.words.specs.declared.call.Client.{Client}
 use Rattle.words.specs.declared.refusal.Refusal.{Refusal}
-use Rattle.logqueue.specs.Numbers.{is_stale}
+use Rattle.interleave.specs.LogQueue.{is_stale}
 use Rattle.words.specs.declared.call.Kind.{Kind}
 use Rattle.words.specs.declared.call.Kind.TheVariants.{Durable as durable_kind, Log as log_kind}
 use Rattle.persist.specs.Memory.{words_after_eviction}
@@ -34,7 +34,7 @@ use Rattle.protocol.specs.Machine.{with_crash as machine_crashed, with_recovery_
 use Rattle.protocol.specs.Machine.{new_world as new_machine}
 use Rattle.protocol.specs.declared.UnderWay.{UnderWay}
 use Rattle.recover.specs.Table.{access_of as recovery_access, recovery_after}
-use Rattle.sound_words.specs.Told.{no_call as no_call_told}
+use Rattle.words.specs.Told.{no_call as no_call_told}
 use Rattle.stepper.specs.declared.resume.After.{After}
 use Rattle.stepper.specs.declared.resume.After.TheVariants.{More as go_on, Done as Ready}
 use Rattle.recover.specs.declared.recovery.Recovery.{Recovery}

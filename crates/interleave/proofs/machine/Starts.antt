@@ -1,13 +1,14 @@
 -- What a start finds, by what it answers. A refusal that is new is one more case here, and of no other proof.
 use Rattle.std.proofs.Common.{◌≡◌, ◌≤◌, ◌<◌, ℕ, Bool, true, false, if◌then◌else◌, List, Option, Some, None, Result, Ok}
 use Rattle.std.proofs.Common.{Err, slice_get, slice_index, refl, ap, ◌∙◌, subst, arith}
-use Rattle.std.specs.Prelude.{◌==◌, IfErr}
+use Rattle.std.specs.Prelude.{◌==◌, IfErr, nat_lt}
+use Rattle.std.proofs.lemmas.Bool.Decides.{nat_tests}
 use Rattle.std.proofs.lemmas.Option.{slice_get_within}
 use Rattle.words.specs.declared.call.Call.{Call}
 use Rattle.words.specs.declared.call.Client.{Client}
 use Rattle.words.specs.declared.refusal.Refusal.{Refusal}
 use Rattle.words.specs.declared.refusal.Refusal.TheVariants.{Busy, NoClient, NoMemory, NoRoom, StaleNumber}
-use Rattle.logqueue.specs.Numbers.{is_stale}
+use Rattle.interleave.specs.LogQueue.{is_stale}
 use Rattle.persist.specs.Memory.{Words}
 use Rattle.arena.specs.Layout.{word_at}
 use Rattle.arena.specs.Shape.{Shape}
@@ -134,3 +135,8 @@ module _ (s : Shape) (ws : Words) (queue : Queue) (calls : List (Option UnderWay
 
   pub used_few : slice_index ws.cached (word_at s (Bump client)) ≤ s.records
   used_few = holds.safe.words.cached (Bump client) client_in tt
+
+  -- the bump word says how many
+  pub used_is : slice_index ws.cached (word_at s (Bump client)) ≡ used_by (state_with s ws queue calls t) client
+  used_is = ap (λ (there : Bool). if there then slice_index ws.cached (word_at s (Bump client)) else 0)
+      (let within : true ≡ nat_lt client.0 s.clients = grind (arith, nat_tests, client_in) in within)

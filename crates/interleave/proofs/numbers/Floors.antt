@@ -14,8 +14,8 @@ use Rattle.words.specs.declared.call.Reply.{Reply}
 use Rattle.words.specs.declared.told.Told.{Told}
 use Rattle.words.specs.declared.told.Told.TheVariants.{None as told_none, Verdict as told_verdict}
 use Rattle.words.specs.declared.limits.TheConstants.{MAX_CLIENTS}
-use Rattle.logqueue.specs.Numbers.{floor_of, new_queue as new_clients}
-use Rattle.logqueue.specs.Queue.{LogClients}
+use Rattle.interleave.specs.LogQueue.{floor_of, new_queue as new_clients}
+use Rattle.interleave.specs.LogQueue.{LogClients}
 use Rattle.arena.specs.Shape.{Shape}
 use Rattle.arena.specs.declared.place.Place.{Place}
 use Rattle.stepper.specs.declared.resume.After.{After}
@@ -23,7 +23,7 @@ use Rattle.stepper.specs.declared.resume.After.TheVariants.{More, Done}
 use Rattle.helping.specs.Table.{access_of}
 use Rattle.helping.specs.declared.op.Op.{Op}
 use Rattle.recover.specs.Table.{boot_recovery}
-use Rattle.sound_words.specs.Told.{no_call}
+use Rattle.words.specs.Told.{no_call}
 use Rattle.sound_words.specs.Told.{tells_by, told_by}
 use Rattle.recover.specs.declared.recovery.Recovery.{Recovery}
 use Rattle.events.specs.Effects.{order_of}

@@ -12,7 +12,7 @@ use Rattle.words.specs.declared.call.Reply.{Reply}
 use Rattle.words.specs.declared.limits.TheConstants.{MAX_CLIENTS}
 use Rattle.words.specs.declared.told.Told.{Told}
 use Rattle.words.specs.declared.told.Told.TheVariants.{None as told_none}
-use Rattle.logqueue.specs.Numbers.{is_stale, told_queue}
+use Rattle.interleave.specs.LogQueue.{is_stale, told_queue}
 use Rattle.arena.specs.declared.place.Place.{Place}
 use Rattle.stepper.specs.declared.resume.After.{After}
 use Rattle.stepper.specs.declared.resume.After.TheVariants.{More, Done}

@@ -17,7 +17,7 @@ use Rattle.words.specs.declared.told.Outcome.{Outcome}
 use Rattle.words.specs.declared.told.Outcome.TheVariants.{NotTaken, Taken}
 use Rattle.words.specs.declared.told.Told.{Told}
 use Rattle.words.specs.declared.told.Told.TheVariants.{None as told_none, Verdict as told_verdict, Row as told_row}
-use Rattle.logqueue.specs.Numbers.{floor_of, floor_from}
+use Rattle.interleave.specs.LogQueue.{floor_of, floor_from}
 use Rattle.events.specs.Effects.{order_of}
 use Rattle.events.specs.History.{CallAt, ReturnAt, ReadyAt, BeginsAt, IsOpenFrom, MayStand}
 use Rattle.events.specs.Orders.{InOrder, IsNew}

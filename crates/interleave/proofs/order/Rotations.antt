@@ -13,7 +13,7 @@ use Rattle.words.specs.declared.refusal.Refusal.{Refusal}
 use Rattle.words.specs.declared.refusal.Refusal.TheVariants.{NotReady, Busy, NoMemory}
 use Rattle.words.specs.declared.told.Told.{Told}
 use Rattle.words.specs.declared.told.Told.TheVariants.{None as told_none}
-use Rattle.logqueue.specs.Numbers.{floor_of}
+use Rattle.interleave.specs.LogQueue.{floor_of}
 use Rattle.arena.specs.Words.{announcements}
 use Rattle.sound_words.specs.Told.{told_by}
 use Rattle.events.specs.Trace.{IsNumberOf}

@@ -11,7 +11,7 @@ use Rattle.words.specs.declared.call.Reply.{Reply}
 use Rattle.words.specs.declared.limits.TheConstants.{MAX_CLIENTS}
 use Rattle.words.specs.declared.refusal.Refusal.{Refusal}
 use Rattle.words.specs.declared.told.Told.{Told}
-use Rattle.logqueue.specs.Numbers.{floor_of}
+use Rattle.interleave.specs.LogQueue.{floor_of}
 use Rattle.arena.specs.Layout.{place_at}
 use Rattle.arena.specs.Shape.{Shape}
 use Rattle.arena.specs.declared.place.Place.{Place}

@@ -10,7 +10,7 @@ use Rattle.interleave.specs.Holds.{Holds}
 use Rattle.interleave.specs.Rotation.{IsQuiet, after_rotation, queue_with_told, rotate_result}
 use Rattle.interleave.specs.State.{State, kept_tells}
 use Rattle.interleave.specs.Queue.{told_in}
-use Rattle.logqueue.specs.Numbers.{floor_of, verdict_of}
+use Rattle.interleave.specs.LogQueue.{floor_of, verdict_of}
 use Rattle.interleave.specs.Verdicts.{IsIdle, IsLast, IsRecalled, IsReplyOf, IsRested, floor_by, floor_in, kept_told}
 use Rattle.interleave.specs.Verdicts.{told_as}
 use Rattle.interleave.specs.declared.queue.Queue.{Queue}

@@ -16,7 +16,7 @@ use Rattle.words.specs.declared.told.Told.{Told}
 use Rattle.words.specs.declared.told.Told.TheVariants.{None as told_none, Verdict as told_verdict, Row as told_row}
 use Rattle.words.specs.declared.told.Verdict.{Verdict}
 use Rattle.persist.specs.Memory.{Words}
-use Rattle.logqueue.specs.Numbers.{floor_of, verdict_of}
+use Rattle.interleave.specs.LogQueue.{floor_of, verdict_of}
 use Rattle.arena.specs.Shape.{Shape}
 use Rattle.arena.specs.Words.{announcements, numbers}
 use Rattle.arena.specs.declared.place.Place.{Place}

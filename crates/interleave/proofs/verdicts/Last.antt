@@ -11,7 +11,7 @@ use Rattle.words.specs.declared.refusal.Refusal.{Refusal}
 use Rattle.words.specs.declared.told.Told.{Told}
 use Rattle.words.specs.declared.told.Told.TheVariants.{Verdict as told_verdict}
 use Rattle.words.specs.declared.told.Verdict.{Verdict}
-use Rattle.logqueue.specs.Numbers.{verdict_of}
+use Rattle.interleave.specs.LogQueue.{verdict_of}
 use Rattle.arena.specs.Layout.{place_at}
 use Rattle.arena.specs.declared.place.Place.{Place}
 use Rattle.stepper.specs.declared.resume.After.{After}

@@ -13,7 +13,7 @@ use Rattle.words.specs.declared.told.Outcome.TheVariants.{NotTaken, Taken}
 use Rattle.words.specs.declared.told.Told.{Told}
 use Rattle.words.specs.declared.told.Told.TheVariants.{None as told_none, Verdict as told_verdict, Row as told_row}
 use Rattle.words.specs.declared.told.Verdict.{Verdict}
-use Rattle.logqueue.specs.Numbers.{floor_from, floor_of}
+use Rattle.interleave.specs.LogQueue.{floor_from, floor_of}
 use Rattle.arena.specs.Layout.{place_at}
 use Rattle.arena.specs.declared.place.Place.{Place}
 use Rattle.recover.specs.declared.recovery.Recovery.{Recovery}

@@ -26,7 +26,7 @@ use Rattle.helping.specs.Table.{node_of}
 use Rattle.stepper.specs.Step.{place_of}
 use Rattle.recover.specs.Table.{access_of, successor, boot_recovery, to_answer, to_outcome, to_row, got_with}
 use Rattle.recover.specs.Table.{removed_with, taken_as, not_taken_as, report_of, after_report, recovery_at}
-use Rattle.sound_words.specs.Told.{no_call}
+use Rattle.words.specs.Told.{no_call}
 use Rattle.recover.specs.Table.{recovery_after, node_at, token_at, point_at_the_end, point_past_status, to_node}
 use Rattle.recover.specs.Table.{past_head}
 use Rattle.stepper.specs.declared.resume.After.TheVariants.{More, Done as Ready}

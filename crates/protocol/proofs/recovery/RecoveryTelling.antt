@@ -29,7 +29,7 @@ use Rattle.stepper.specs.declared.loading.Loading.TheVariants.{Second as at_seco
 use Rattle.helping.specs.Table.{token_of, node_of}
 use Rattle.recover.specs.Table.{successor, node_at, token_at, to_row, got_with, removed_with, taken_as, not_taken_as}
 use Rattle.recover.specs.Table.{report_of, to_answer, to_outcome}
-use Rattle.sound_words.specs.Told.{no_call}
+use Rattle.words.specs.Told.{no_call}
 use Rattle.stepper.specs.declared.resume.After.TheVariants.{More, Done as Ready}
 use Rattle.recover.specs.declared.point.RecoveryPoint.{RecoveryPoint}
 use Rattle.recover.specs.declared.point.RecoveryPoint.TheVariants.{RecoveryLoadAnnouncement, RecoveryLoadStatus}

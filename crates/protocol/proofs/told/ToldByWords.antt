@@ -20,7 +20,7 @@ use Rattle.arena.specs.Shape.{Shape, greatest}
 use Rattle.arena.specs.Words.{links, marks, values, cells, numbers, entry_kinds, statuses, announcements}
 use Rattle.arena.specs.declared.place.Place.{Place}
 use Rattle.helping.specs.Table.{token_of}
-use Rattle.sound_words.specs.Told.{no_call}
+use Rattle.words.specs.Told.{no_call}
 use Rattle.sound_words.specs.Told.{node_claimed_by, row_with, enqueue_outcome, dequeue_outcome, outcome_by, report_on}
 use Rattle.sound_words.specs.Told.{told_by, tells_by}
 use Rattle.sound_words.proofs.Facts.{IsTellable, row_is_empty, row_is_got, row_is_open, told_done, told_empty, told_got}

@@ -20,7 +20,7 @@ use Rattle.stepper.specs.declared.resume.After.{After}
 use Rattle.stepper.specs.declared.resume.After.TheVariants.{More, Done}
 use Rattle.helping.specs.Table.{access_of}
 use Rattle.helping.specs.declared.op.Op.{Op}
-use Rattle.sound_words.specs.Told.{no_call}
+use Rattle.words.specs.Told.{no_call}
 use Rattle.events.specs.Effects.{order_of}
 use Rattle.events.specs.Trace.{IsTrace, IsEffect}
 use Rattle.events.specs.Orders.{InOrder}

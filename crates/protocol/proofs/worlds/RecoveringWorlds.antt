@@ -34,7 +34,7 @@ use Rattle.words.specs.declared.call.Kind.TheVariants.{Durable, Log}
 use Rattle.words.specs.declared.call.Token.{Token}
 use Rattle.arena.specs.declared.codes.TheConstants.{EMPTY_STATUS, TAKEN_STATUS}
 use Rattle.recover.specs.Table.{access_of, successor, boot_recovery, taken_as, not_taken_as, report_of}
-use Rattle.sound_words.specs.Told.{no_call}
+use Rattle.words.specs.Told.{no_call}
 use Rattle.recover.specs.Table.{recovery_at, recovery_after, point_at_the_end, point_past_status, to_node, to_row}
 use Rattle.recover.specs.Table.{got_with, removed_with, to_answer, to_outcome, past_head, node_at, token_at, IsPoint}
 use Rattle.recover.specs.Table.{kept_place, IsKeeping}

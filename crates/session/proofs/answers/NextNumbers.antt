@@ -8,7 +8,7 @@ use Rattle.words.specs.declared.refusal.Refusal.TheVariants.{Gap, Old}
 use Rattle.words.specs.declared.told.Outcome.{Outcome}
 use Rattle.words.specs.declared.told.Outcome.TheVariants.{NotTaken, Taken}
 use Rattle.words.specs.declared.told.Verdict.{Verdict}
-use Rattle.logqueue.specs.Numbers.{floor_from}
+use Rattle.interleave.specs.LogQueue.{floor_from}
 use Rattle.named.specs.Brokers.{answer_if}
 use Rattle.interleave.specs.Verdicts.{floor_by}
 use Rattle.session.specs.Keeping.{IsSettled}

@@ -9,7 +9,7 @@ use Rattle.words.specs.declared.told.Outcome.{Outcome}
 use Rattle.words.specs.declared.told.Outcome.TheVariants.{NotTaken, Taken}
 use Rattle.words.specs.declared.told.Told.{Told}
 use Rattle.words.specs.declared.told.Verdict.{Verdict}
-use Rattle.logqueue.specs.Numbers.{floor_from, verdict_of}
+use Rattle.interleave.specs.LogQueue.{floor_from, verdict_of}
 use Rattle.arena.specs.declared.broker.SlotId.{SlotId}
 use Rattle.interleave.specs.Calls.{is_no_memory}
 use Rattle.interleave.specs.Queue.{told_in}

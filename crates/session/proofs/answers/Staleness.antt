@@ -17,7 +17,7 @@ use Rattle.words.specs.declared.refusal.Refusal.TheVariants.{StaleNumber, WrongK
 use Rattle.words.specs.declared.told.Outcome.{Outcome}
 use Rattle.words.specs.declared.told.Outcome.TheVariants.{NotTaken, Taken}
 use Rattle.words.specs.declared.told.Verdict.{Verdict}
-use Rattle.logqueue.specs.Numbers.{is_stale}
+use Rattle.interleave.specs.LogQueue.{is_stale}
 use Rattle.protocol.specs.declared.UnderWay.{UnderWay}
 use Rattle.interleave.specs.Calls.{is_no_memory}
 use Rattle.interleave.specs.Holds.{Holds}

@@ -1,4 +1,6 @@
-use Rattle.std.proofs.Common.{◌≡◌, ℕ, suc, ◌+◌, ◌≤◌, ◌<◌, Bool, true, false, Some, None, Ok, slice_get, slice_index_or, refl, sym, ap, ◌∙◌, subst, arith, rules}
+use Rattle.std.proofs.Common.{◌≡◌, ℕ, suc, ◌+◌, ◌≤◌, ◌<◌, Bool, true, false, Some, None, Result, Ok, Err, slice_get, slice_index_or, refl, sym, ap, ◌∙◌, subst, arith, rules}
+use Rattle.std.proofs.lemmas.Bool.{false≢true}
+use Rattle.words.specs.declared.refusal.Refusal.{Refusal}
 use Rattle.persist.specs.Memory.{Lent, Words}
 use Rattle.protocol.specs.Machine.{next_of}
 use Rattle.protocol.specs.declared.UnderWay.{UnderWay}
@@ -14,6 +16,32 @@ use Rattle.interleave.proofs.runs.AloneCalls.{left_in, left_few, step_is, answer
 use Rattle.interleave.proofs.machine.Holding.{waiting_is}
 use Rattle.interleave.proofs.machine.Invariants.{room_held}
 use Rattle.interleave.proofs.lent.Core.run_alone.Goals as goal
+
+-- facts of numbers and answers, over plain variables: the tactics read no whole context for them
+not_both : {T : Type 0} (r : Result T Refusal) (x : T) (e : Refusal) → r ≡ Ok x → r ≡ Err e → ⊥
+not_both (Ok y) x e ok err = cc (err)
+not_both (Err y) x e ok err = cc (ok)
+
+same_answer : {T : Type 0} (a b x : T) → (let r : Result T Refusal = Ok a in r) ≡ Ok b → a ≡ x → b ≡ x
+same_answer a b x same is = let ab : a ≡ b = cc (same) in sym ab ∙ is
+
+not_empty : (room : ℕ) → 0 < room → room ≡ 0 → ⊥
+not_empty room some none = omega arith
+
+one_more : (n : ℕ) → suc n ≡ n + 1
+one_more n = omega arith
+
+none_made : (left most : ℕ) → left ≤ most → 0 + left ≤ most
+none_made left most few = omega arith
+
+one_made : (n before after most : ℕ) → after < before → n + before ≤ most → n + 1 + after ≤ most
+one_made n before after most fewer few = omega arith
+
+still_room : (old new : ℕ) → 0 < old → old ≤ new → 0 < new
+still_room old new some stays = omega arith
+
+still_as_much : (first old new : ℕ) → first ≤ old → old ≤ new → first ≤ new
+still_as_much first old new held stays = omega arith
 
 pub reserve-requires : goal.reserve-requires
 reserve-requires g c = room_held c.requires.holds
@@ -33,7 +61,7 @@ loop-answer-init g c =
       asked = subst (λ (k : CoreState). IfCallAsked k.shape (slice_index_or k.calls c.args.client.0 None) (g.M.WordMemory.lent c.args.memory.now).request) (sym c.reserve.ensures.same) c.requires.asked;
       lent = refl;
       waits = record { call = u; is = subst (λ (w : State). slice_get w.calls c.args.client.0 ≡ Some (Some u)) (sym same) here };
-      left = omega (arith, left_few (state_of c.reserve.new.self ws) c.args.client);
+      left = none_made _ _ (left_few (state_of c.reserve.new.self ws) c.args.client);
       room = search rules;
       at_first = c.reserve.ensures.kept;
     }
@@ -50,17 +78,17 @@ pub returns-in_err-answer-clause-alone : goal.returns-in_err-answer-clause-alone
 returns-in_err-answer-clause-alone g c =
     let w : State = state_of c.loop-answer.self (g.M.WordMemory.words c.loop-answer.memory) in
     let u : UnderWay = c.loop-answer.invariant.waits.call in
-    let paid : is_no_memory c.step.result ≡ false = not_true (is_no_memory c.step.result) (λ e. omega (arith, c.step.ensures.by_rule.full e, c.loop-answer.invariant.room)) in
+    let paid : is_no_memory c.step.result ≡ false = not_true (is_no_memory c.step.result) (λ e. not_empty _ c.loop-answer.invariant.room (c.step.ensures.by_rule.full e)) in
     let answered : c.step.result ≡ Ok (answer_of (next_of (machine w) u)) = c.step.ensures.by_rule.answers ∙ ap (λ (b : Bool). step_result b w c.args.client) paid ∙ answer_is w c.args.client u c.loop-answer.invariant.waits.is c.loop-answer.invariant.holds in
-    absurd (cc (answered, c.in_err-answer.was))
+    absurd (not_both _ _ _ answered c.in_err-answer.was)
 
 pub returns-in_err-answer-clause-left : goal.returns-in_err-answer-clause-left
 returns-in_err-answer-clause-left g c =
     let w : State = state_of c.loop-answer.self (g.M.WordMemory.words c.loop-answer.memory) in
     let u : UnderWay = c.loop-answer.invariant.waits.call in
-    let paid : is_no_memory c.step.result ≡ false = not_true (is_no_memory c.step.result) (λ e. omega (arith, c.step.ensures.by_rule.full e, c.loop-answer.invariant.room)) in
+    let paid : is_no_memory c.step.result ≡ false = not_true (is_no_memory c.step.result) (λ e. not_empty _ c.loop-answer.invariant.room (c.step.ensures.by_rule.full e)) in
     let answered : c.step.result ≡ Ok (answer_of (next_of (machine w) u)) = c.step.ensures.by_rule.answers ∙ ap (λ (b : Bool). step_result b w c.args.client) paid ∙ answer_is w c.args.client u c.loop-answer.invariant.waits.is c.loop-answer.invariant.holds in
-    absurd (cc (answered, c.in_err-answer.was))
+    absurd (not_both _ _ _ answered c.in_err-answer.was)
 
 pub loop-answer-smaller : goal.loop-answer-smaller
 loop-answer-smaller g c =
@@ -71,7 +99,7 @@ loop-answer-smaller g c =
     let paid : is_no_memory c.step.result ≡ false = ap is_no_memory c.in_ok-answer.was in
     let stepped : v ≡ after_one_access w c.args.client u = c.step.ensures.by_rule.leaves ∙ ap (λ (b : Bool). after_step b w c.args.client) paid ∙ step_is w c.args.client u here c.loop-answer.invariant.holds in
     let answered : Ok c.in_ok-answer.answer ≡ Ok (answer_of (next_of (machine w) u)) = sym c.in_ok-answer.was ∙ c.step.ensures.by_rule.answers ∙ ap (λ (b : Bool). step_result b w c.args.client) paid ∙ answer_is w c.args.client u here c.loop-answer.invariant.holds in
-    let none : answer_of (next_of (machine w) u) ≡ None = cc (answered, c.in_default.is) in
+    let none : answer_of (next_of (machine w) u) ≡ None = same_answer _ _ None answered c.in_default.is in
     let on = goes_on w c.args.client u here c.loop-answer.invariant.holds none in
     subst (λ (x : State). left_in x c.args.client < left_in w c.args.client) (sym stepped) on.fewer
 
@@ -85,13 +113,13 @@ loop-answer-preserved g c =
     let paid : is_no_memory c.step.result ≡ false = ap is_no_memory c.in_ok-answer.was in
     let stepped : v ≡ after_one_access w c.args.client u = c.step.ensures.by_rule.leaves ∙ ap (λ (b : Bool). after_step b w c.args.client) paid ∙ step_is w c.args.client u here c.loop-answer.invariant.holds in
     let answered : Ok c.in_ok-answer.answer ≡ Ok (answer_of (next_of (machine w) u)) = sym c.in_ok-answer.was ∙ c.step.ensures.by_rule.answers ∙ ap (λ (b : Bool). step_result b w c.args.client) paid ∙ answer_is w c.args.client u here c.loop-answer.invariant.holds in
-    let none : answer_of (next_of (machine w) u) ≡ None = cc (answered, c.in_default.is) in
+    let none : answer_of (next_of (machine w) u) ≡ None = same_answer _ _ None answered c.in_default.is in
     let on = goes_on w c.args.client u here c.loop-answer.invariant.holds none in
     let fewer : left_in v c.args.client < left_in w c.args.client = subst (λ (x : State). left_in x c.args.client < left_in w c.args.client) (sym stepped) on.fewer in
     let stays : c.loop-answer.self.trace.room ≤ c.step.new.self.trace.room = c.step.ensures.stays (c.in_ok-answer.was ∙ ap Ok c.in_default.is) in
     record {
       world =
-          let more : suc c.loop-answer.steps ≡ c.loop-answer.steps + 1 = omega arith in
+          let more : suc c.loop-answer.steps ≡ c.loop-answer.steps + 1 = one_more c.loop-answer.steps in
           c.step.ensures.by_rule.leaves ∙ ap (λ (b : Bool). after_step b w c.args.client) paid
           ∙ ap (λ (x : State). after_step false x c.args.client) c.loop-answer.invariant.world
           ∙ ap (λ (n : ℕ). after_alone n old c.args.client) more;
@@ -105,15 +133,15 @@ loop-answer-preserved g c =
           subst (λ (x : State). IfCallAsked x.shape (slice_index_or x.calls c.args.client.0 None) (g.M.WordMemory.lent c.step.new.memory).request) (sym v_is)
           (subst (λ (l : Lent). IfCallAsked (after_step false w c.args.client).shape (slice_index_or (after_step false w c.args.client).calls c.args.client.0 None) l.request) (sym left) now);
       lent =
-          let more : suc c.loop-answer.steps ≡ c.loop-answer.steps + 1 = omega arith in
+          let more : suc c.loop-answer.steps ≡ c.loop-answer.steps + 1 = one_more c.loop-answer.steps in
           c.step.ensures.lent ∙ ap (λ (b : Bool). lent_after_step b w c.args.client (g.M.WordMemory.lent c.loop-answer.memory)) paid
           ∙ ap (λ (x : State). lent_after_step false x c.args.client (g.M.WordMemory.lent c.loop-answer.memory)) c.loop-answer.invariant.world
           ∙ ap (lent_after_step false (after_alone c.loop-answer.steps old c.args.client) c.args.client) c.loop-answer.invariant.lent
           ∙ ap (λ (n : ℕ). lent_after_alone n old c.args.client (g.M.WordMemory.lent c.args.memory.now)) more;
       waits = record { call = on.call; is = subst (λ (x : State). slice_get x.calls c.args.client.0 ≡ Some (Some on.call)) (sym stepped) on.is };
-      left = omega (arith, fewer, c.loop-answer.invariant.left);
-      room = omega (arith, stays, c.loop-answer.invariant.room);
-      at_first = omega (arith, stays, c.loop-answer.invariant.at_first);
+      left = one_made c.loop-answer.steps _ _ _ fewer c.loop-answer.invariant.left;
+      room = still_room _ _ c.loop-answer.invariant.room stays;
+      at_first = still_as_much _ _ _ c.loop-answer.invariant.at_first stays;
     }
 
 pub returns-in-Some-clause-alone : goal.returns-in-Some-clause-alone
@@ -122,16 +150,16 @@ returns-in-Some-clause-alone g c =
     let w : State = state_of c.loop-answer.self (g.M.WordMemory.words c.loop-answer.memory) in
     let u : UnderWay = c.in_ok-waiting.field-0.now in
     let paid : is_no_memory c.step.result ≡ false = ap is_no_memory c.in_ok-answer.was in
-    let more : suc c.loop-answer.steps ≡ c.loop-answer.steps + 1 = omega arith in
+    let more : suc c.loop-answer.steps ≡ c.loop-answer.steps + 1 = one_more c.loop-answer.steps in
     let result : step_result false (after_alone c.loop-answer.steps old c.args.client) c.args.client ≡ Ok (Some c.in-Some.reply) =
     ap (λ (x : State). step_result false x c.args.client) (sym c.loop-answer.invariant.world)
     ∙ ap (λ (b : Bool). step_result b w c.args.client) (sym paid)
     ∙ sym c.step.ensures.by_rule.answers ∙ c.in_ok-answer.was ∙ ap Ok c.in-Some.is in
     let waits : waiting_in old c.args.client ≡ Ok u = c.in_ok-waiting.ensures.ok in
     record {
-      refused = λ refusal e. absurd (cc (waits, e));
+      refused = λ refusal e. absurd (not_both _ u refusal waits e);
       errors = tt;
-      full = λ full. absurd (cc (full));
+      full = λ full. absurd (false≢true full);
       same = tt;
       steps = search rules;
       answer = subst (λ (n : ℕ). IsAnsweredAlone old c.args.client n c.in-Some.reply) more result;
@@ -139,6 +167,6 @@ returns-in-Some-clause-alone g c =
           c.step.ensures.by_rule.leaves ∙ ap (λ (b : Bool). after_step b w c.args.client) paid
           ∙ ap (λ (x : State). after_step false x c.args.client) c.loop-answer.invariant.world
           ∙ ap (λ (n : ℕ). after_alone n old c.args.client) more;
-      room = omega (arith, c.step.ensures.by_rule.room, c.loop-answer.invariant.at_first);
+      room = still_as_much _ _ _ c.loop-answer.invariant.at_first c.step.ensures.by_rule.room;
       spare = tt;
     }

@@ -1,16 +1,19 @@
-use Rattle.std.proofs.Common.{◌≡◌, ℕ, Option, Some, None, Ok, ap, refl, sym, subst, ◌∙◌}
+use Rattle.std.proofs.Common.{◌≡◌, ℕ, Option, Some, None, Result, Ok, ap, refl, sym, subst, ◌∙◌}
 use Rattle.std.specs.Option.{IfSome}
 use Rattle.std.specs.Result.{IfOk}
 use Rattle.words.specs.declared.call.Reply.{Reply}
+use Rattle.words.specs.declared.refusal.Refusal.{Refusal}
 use Rattle.persist.specs.Noted.{IsNoted, answer_in, change_in}
-use Rattle.named.specs.Brokers.{world_at}
+use Rattle.named.specs.Brokers.{IsWell, world_at}
 use Rattle.named.specs.Looking.{IsOpenTo}
+use Rattle.session.specs.Answering.{IsHeardNow, IsReplyOfCall, number_at}
 use Rattle.session.specs.Keeping.{IsKeptNow, SessionGoesOn}
 use Rattle.session.specs.Promises.{IsReplyIfNumbered}
 use Rattle.session.specs.Requests.{IsAdvanced, call_number, last_after}
 use Rattle.session.specs.Sessions.{Sessioned, kept_in}
 use Rattle.session.proofs.calls.Sessions.{advanced_on, advanced_reply, advanced_right, gone_on, kept_gone_on, kept_heard, kept_refused}
 use Rattle.session.proofs.calls.Sessions.{number_heard}
+use Rattle.session.proofs.calls.Refusing.{answered_so, not_advanced}
 use Rattle.session.proofs.calls.SlotCalls.{answered_at}
 use Rattle.session.proofs.answers.Promises.{numbers_kept, numbers_shown}
 use Rattle.named.proofs.Facts.{broker_stays, open_below}
@@ -178,3 +181,21 @@ returns-then-is_none-clause-noted c =
     subst (λ (s : Sessioned). IsNoted c.in-Ok.noted.change s.broker.words.kept c.step_open-acted.new.self.words.kept) c.self.view_is
     (subst (λ change. IsNoted change c.self.inside.broker.words.kept c.step_open-acted.new.self.words.kept)
     (ap (change_in {T = Option Reply}) c.in-Ok.is) c.step_open-acted.ensures.noted)
+
+pub returns-in_err-number-clause-advanced : goal.returns-in_err-number-clause-advanced
+returns-in_err-number-clause-advanced c =
+    subst (IsAdvanced c.args.self.now.broker c.args.self.now.broker c.args.queue.0 c.args.client)
+    (sym (answered_so c.from_residual.result c.in_err-number.field-0.0 c.from_residual.ensures))
+    (not_advanced (λ w. call_number (Some w) c.args.client) c.args.self.now.broker c.args.queue.0 c.args.client c.in_err-number.field-0.0
+    (subst (λ (s : Sessioned). IsWell s.broker) c.self.view_is c.self.invariant.well) c.in_err-number.ensures.answer)
+
+pub returns-in_default-clause-reply : goal.returns-in_default-clause-reply
+returns-in_default-clause-reply c =
+    subst (λ (r : Result (Option Reply) Refusal). IsReplyOfCall c.args.self.now (record { broker = c.step_open-acted.new.self; kept = c.self.inside.kept }) c.args.queue.0 c.args.client r)
+    (sym (ap (answer_in {T = Option Reply}) c.in_default.is)) tt
+
+pub returns-in_default-clause-kept : goal.returns-in_default-clause-kept
+returns-in_default-clause-kept c =
+    subst (λ (s : Sessioned). IsHeardNow s.kept c.self.inside.kept c.args.queue.0 c.args.client.0 (number_at c.args.self.now c.args.queue.0 c.args.client)
+    (answer_in c.step_open-acted.result)) c.self.view_is
+    (kept_refused c.self.inside.kept c.args.queue.0 c.args.client.0 _ (answer_in c.step_open-acted.result) c.in_default.field-0 (ap (answer_in {T = Option Reply}) c.in_default.is))

@@ -1,4 +1,4 @@
-use Rattle.std.proofs.Common.{rules, ◌≡◌, ◌∙◌, ℕ, Option, None, Some, Result, Ok, Err, refl, sym, ap, subst}
+use Rattle.std.proofs.Common.{◌≡◌, ◌∙◌, ℕ, Option, None, Some, Result, Ok, Err, refl, sym, ap, subst}
 use Rattle.words.specs.declared.call.Reply.{Reply}
 use Rattle.words.specs.declared.refusal.Refusal.{Refusal}
 use Rattle.words.specs.declared.refusal.Refusal.TheVariants.{StaleNumber}
@@ -11,6 +11,7 @@ use Rattle.session.specs.Requests.{IsBegunBy, IsStarted, answer_to, as_begun, nu
 use Rattle.session.specs.Sessions.{IsRight, Sessioned}
 use Rattle.session.proofs.answers.Staleness.{answer_to_other, begun_above}
 use Rattle.session.proofs.answers.Promises.{numbers_kept, numbers_shown}
+use Rattle.session.proofs.calls.Refusing.{passed_on, same_refusal}
 use Rattle.session.proofs.calls.Requests.{answered_reply, started_right}
 use Rattle.session.proofs.calls.Clients.{goes_on_kept, laid_out_act}
 use Rattle.session.proofs.calls.Starts.{begun_if_runs, number_is, started_by}
@@ -21,9 +22,10 @@ pub returns-in_err-start_open-clause-begun : goal.returns-in_err-start_open-clau
 returns-in_err-start_open-clause-begun c =
     let old : Sessioned = session_view c.self.inside in
     let new : Sessioned = record { broker = c.start_open.new.self; kept = c.self.inside.kept } in
-    let runs : answer_to c.args.self.now c.args.queue.0 c.args.client c.args.number ≡ Ok None = search rules in
+    let runs : answer_to c.args.self.now c.args.queue.0 c.args.client c.args.number ≡ Ok None =
+    sym c.in_ok-reply.ensures.answer ∙ ap (λ (o : Option Reply). let r : Result (Option Reply) Refusal = Ok o in r) c.in_default.is in
     let number : c.unwrap_or.result ≡ number_or_zero c.args.number = c.unwrap_or.ensures ∙ number_is c.args.number in
-    let refused : c.from_residual-in_err-start_open.result ≡ Err c.in_err-start_open.field-0.0 = search rules in
+    let refused = passed_on c.from_residual-in_err-start_open.result c.in_err-start_open.field-0.0 c.from_residual-in_err-start_open.ensures in
     let result : as_begun c.start_open.result ≡ c.from_residual-in_err-start_open.result =
     ap as_begun c.in_err-start_open.was ∙ sym refused in
     let done : IsBegunBy old new c.args.queue.0 c.args.client c.unwrap_or.result c.args.call (as_begun c.start_open.result)
@@ -67,7 +69,8 @@ returns-in-Some-clause-promises c = numbers_shown _ _ c.self.invariant c.self.vi
 
 pub returns-in-Some-clause-reply : goal.returns-in-Some-clause-reply
 returns-in-Some-clause-reply c =
-    let answers : answer_to c.args.self.now c.args.queue.0 c.args.client c.args.number ≡ Ok (Some c.in-Some.reply) = search rules in
+    let answers : answer_to c.args.self.now c.args.queue.0 c.args.client c.args.number ≡ Ok (Some c.in-Some.reply) =
+    sym c.in_ok-reply.ensures.answer ∙ ap (λ (o : Option Reply). let r : Result (Option Reply) Refusal = Ok o in r) c.in-Some.is in
     answered_reply c.args.self.now (subst IsRight c.self.view_is c.self.invariant) c.args.queue.0 c.args.client c.args.number
     c.in-Some.reply answers
 
@@ -107,21 +110,20 @@ returns-clause-queues c = queues_on _ _ _ c.self.view_is c.start_open.ensures.go
 
 pub returns-in_err-reply-clause-stale : goal.returns-in_err-reply-clause-stale
 returns-in_err-reply-clause-stale c = λ is.
-    let refused : c.from_residual.result ≡ Err c.in_err-reply.field-0.0 = search rules in
-    let answer : answer_to c.args.self.now c.args.queue.0 c.args.client c.args.number ≡ Err c.in_err-reply.field-0.0 =
-    search rules in
-    let same : c.in_err-reply.field-0.0 ≡ StaleNumber = cc (refused, is) in
+    let same : c.in_err-reply.field-0.0 ≡ StaleNumber =
+    same_refusal _ _ (sym (passed_on c.from_residual.result c.in_err-reply.field-0.0 c.from_residual.ensures) ∙ is) in
     absurd (answer_to_other c.args.self.now c.args.queue.0 c.args.client c.args.number
-    (answer ∙ ap (λ (r : Refusal). Err r) same))
+    (sym c.in_err-reply.ensures.answer ∙ ap (λ (r : Refusal). Err r) same))
 
 pub returns-in_err-start_open-clause-stale : goal.returns-in_err-start_open-clause-stale
 returns-in_err-start_open-clause-stale c = λ is.
     let old : Sessioned = session_view c.self.inside in
-    let answer : answer_to c.args.self.now c.args.queue.0 c.args.client c.args.number ≡ Ok None = search rules in
+    let answer : answer_to c.args.self.now c.args.queue.0 c.args.client c.args.number ≡ Ok None =
+    sym c.in_ok-reply.ensures.answer ∙ ap (λ (o : Option Reply). let r : Result (Option Reply) Refusal = Ok o in r) c.in_default.is in
     let runs : answer_to old c.args.queue.0 c.args.client c.args.number ≡ Ok None =
     ap (λ (s : Sessioned). answer_to s c.args.queue.0 c.args.client c.args.number) c.self.view_is ∙ answer in
     let number : c.unwrap_or.result ≡ number_or_zero c.args.number = c.unwrap_or.ensures ∙ number_is c.args.number in
-    let refused : c.from_residual-in_err-start_open.result ≡ Err c.in_err-start_open.field-0.0 = search rules in
+    let refused = passed_on c.from_residual-in_err-start_open.result c.in_err-start_open.field-0.0 c.from_residual-in_err-start_open.ensures in
     let result : as_begun c.start_open.result ≡ c.from_residual-in_err-start_open.result =
     ap as_begun c.in_err-start_open.was ∙ sym refused in
     begun_above old (numbers_kept old c.self.invariant) c.args.queue.0 c.args.client c.args.number runs c.start_open.new.self
@@ -132,3 +134,34 @@ returns-in_err-start_open-clause-stale c = λ is.
     c.start_open.result c.start_open.ensures.act
     c.start_open.ensures.beside))
     (result ∙ is)
+
+pub returns-clause-begun : goal.returns-clause-begun
+returns-clause-begun c =
+    let old : Sessioned = session_view c.self.inside in
+    let new : Sessioned = record { broker = c.start_open.new.self; kept = c.self.inside.kept } in
+    let runs : answer_to c.args.self.now c.args.queue.0 c.args.client c.args.number ≡ Ok None =
+    sym c.in_ok-reply.ensures.answer ∙ ap (λ (o : Option Reply). let r : Result (Option Reply) Refusal = Ok o in r) c.in_default.is in
+    let number : c.unwrap_or.result ≡ number_or_zero c.args.number = c.unwrap_or.ensures ∙ number_is c.args.number in
+    let result : as_begun c.start_open.result ≡ Ok None = ap as_begun c.in_ok-start_open.was in
+    let done : IsBegunBy old new c.args.queue.0 c.args.client c.unwrap_or.result c.args.call (as_begun c.start_open.result)
+    (answer_to c.args.self.now c.args.queue.0 c.args.client c.args.number) =
+    begun_if_runs old new c.args.queue.0 c.args.client c.unwrap_or.result c.args.call c.start_open.result
+    (answer_to c.args.self.now c.args.queue.0 c.args.client c.args.number) runs
+    (started_by old.broker new.broker c.args.queue.0 c.args.client c.unwrap_or.result c.args.call c.start_open.result
+    c.start_open.ensures.act
+    c.start_open.ensures.beside)
+    refl in
+    let answers : Result (Option Reply) Refusal = answer_to c.args.self.now c.args.queue.0 c.args.client c.args.number in
+    subst (λ (s : Sessioned). IsBegunBy s new c.args.queue.0 c.args.client (number_or_zero c.args.number) c.args.call (Ok None) answers) c.self.view_is
+    (subst (λ (n : ℕ). IsBegunBy old new c.args.queue.0 c.args.client n c.args.call (Ok None) answers) number
+    (subst (λ (r : Result (Option Reply) Refusal). IsBegunBy old new c.args.queue.0 c.args.client c.unwrap_or.result c.args.call r answers) result done))
+
+pub returns-in_err-reply-clause-begun : goal.returns-in_err-reply-clause-begun
+returns-in_err-reply-clause-begun c =
+    subst (IsBegunBy c.args.self.now c.args.self.now c.args.queue.0 c.args.client (number_or_zero c.args.number) c.args.call c.from_residual.result)
+    c.in_err-reply.ensures.answer (passed_on c.from_residual.result c.in_err-reply.field-0.0 c.from_residual.ensures, refl)
+
+pub returns-in-Some-clause-begun : goal.returns-in-Some-clause-begun
+returns-in-Some-clause-begun c =
+    subst (IsBegunBy c.args.self.now c.args.self.now c.args.queue.0 c.args.client (number_or_zero c.args.number) c.args.call (Ok (Some c.in-Some.reply)))
+    (ap (λ (o : Option Reply). let r : Result (Option Reply) Refusal = Ok o in r) (sym c.in-Some.is) ∙ c.in_ok-reply.ensures.answer) (refl, refl)

@@ -20,7 +20,7 @@ pub returns-in_err-look-clause-answer : goal.returns-in_err-look-clause-answer
 returns-in_err-look-clause-answer c =
     passed_on c.from_residual.result c.in_err-look.field-0.0 c.from_residual.ensures
     ∙ subst (λ (s : Sessioned). (let r : Result (Option ℕ) Refusal = Err c.in_err-look.field-0.0 in r) ≡ answer_at (called c.args.client) s.broker c.args.queue.0 c.args.client) c.self.view_is
-    (refused_too (called c.args.client) c.self.inside.broker c.args.queue.0 c.args.client c.in_err-look.field-0.0 c.in_err-look.ensures.look)
+    (refused_too (look_at c.args.client) (called c.args.client) c.self.inside.broker c.args.queue.0 c.args.client c.in_err-look.field-0.0 c.in_err-look.ensures.look)
 
 pub returns-in_err-look-clause-open : goal.returns-in_err-look-clause-open
 returns-in_err-look-clause-open c = not_done _ c.from_residual.result c.in_err-look.field-0.0 c.from_residual.ensures

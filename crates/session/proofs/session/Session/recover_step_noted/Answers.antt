@@ -1,4 +1,5 @@
-use Rattle.std.proofs.Common.{◌≡◌, ◌≤◌, ◌<◌, ◌+◌, Bool, true, None, Result, Ok, Err, ap, sym, subst, ◌∙◌}
+use Rattle.std.proofs.Common.{◌≡◌, ◌≤◌, ◌<◌, ◌+◌, Bool, true, false, None, Result, Ok, Err, ap, sym, subst, ◌∙◌}
+use Rattle.std.proofs.lemmas.Bool.{false≢true}
 use Rattle.words.specs.declared.refusal.Refusal.{Refusal}
 use Rattle.persist.specs.Noted.{IsNoted, answer_in}
 use Rattle.interleave.specs.Calls.{is_no_memory}
@@ -13,7 +14,7 @@ use Rattle.session.specs.Sessions.{Sessioned}
 use Rattle.session.proofs.answers.RecoverySteps.{ready_goes_on, right_ready, right_unready, unready_goes_on}
 use Rattle.session.proofs.answers.Promises.{numbers_kept}
 use Rattle.session.proofs.calls.Queues.{downtime_on}
-use Rattle.session.proofs.calls.Refusing.{answered_so, left, noted_as, nothing}
+use Rattle.session.proofs.calls.Refusing.{answered_so, answers_none, answers_this, left, noted_as, nothing}
 use Rattle.session.proofs.session.Session.recover_step_noted.Goals as goal
 
 -- the step is refused
@@ -21,7 +22,7 @@ pub invariant_of-self : goal.invariant_of-self
 invariant_of-self c =
     let s : Sessioned = session_view c.self.inside in
     right_unready s c.recover_step_noted.new.self (answer_in c.recover_step_noted.result) c.self.invariant c.recover_step_noted.ensures.promises.well
-    c.recover_step_noted.ensures.step (λ ready. absurd (cc (ap (answer_in {T = Bool}) c.in_err-ready.was, ready)))
+    c.recover_step_noted.ensures.step (λ ready. absurd (answers_none c.recover_step_noted.result c.in_err-ready.field-0.0 true c.in_err-ready.was ready))
 
 pub returns-in_err-ready-clause-few : goal.returns-in_err-ready-clause-few
 returns-in_err-ready-clause-few c =
@@ -71,7 +72,7 @@ pub invariant_of-self-else-ready : goal.invariant_of-self-else-ready
 invariant_of-self-else-ready c =
     let s : Sessioned = session_view c.self.inside in
     right_unready s c.recover_step_noted.new.self (answer_in c.recover_step_noted.result) c.self.invariant c.recover_step_noted.ensures.promises.well
-    c.recover_step_noted.ensures.step (λ ready. absurd (cc (ap (answer_in {T = Bool}) c.in_ok-ready.was, c.if-ready.false, ready)))
+    c.recover_step_noted.ensures.step (λ ready. absurd (false≢true (answers_this c.recover_step_noted.result c.in_ok-ready.field-0 false true c.in_ok-ready.was c.if-ready.false ready)))
 
 pub returns-else-ready-clause-few : goal.returns-else-ready-clause-few
 returns-else-ready-clause-few c =
@@ -130,7 +131,7 @@ pub returns-then-ready-clause-told : goal.returns-then-ready-clause-told
 returns-then-ready-clause-told c = subst (λ (s : Sessioned). TellAtReady s.broker c.recover_step_noted.new.self) c.self.view_is c.recover_step_noted.ensures.told
 
 pub returns-then-ready-clause-full : goal.returns-then-ready-clause-full
-returns-then-ready-clause-full c = λ full. absurd (cc (full))
+returns-then-ready-clause-full c = λ full. absurd (false≢true full)
 
 pub returns-then-ready-clause-spare : goal.returns-then-ready-clause-spare
 returns-then-ready-clause-spare c = tt
@@ -148,7 +149,7 @@ pub returns-else-ready-clause-told : goal.returns-else-ready-clause-told
 returns-else-ready-clause-told c = subst (λ (s : Sessioned). TellAtReady s.broker c.recover_step_noted.new.self) c.self.view_is c.recover_step_noted.ensures.told
 
 pub returns-else-ready-clause-full : goal.returns-else-ready-clause-full
-returns-else-ready-clause-full c = λ full. absurd (cc (full))
+returns-else-ready-clause-full c = λ full. absurd (false≢true full)
 
 pub returns-else-ready-clause-spare : goal.returns-else-ready-clause-spare
 returns-else-ready-clause-spare c = tt

@@ -1,8 +1,8 @@
 use Rattle.std.proofs.Common.{◌≡◌, ℕ, suc, ◌+◌, ◌-◌, ◌<◌, List, [], ◌∷◌, ◌++◌, length, map, take, get_or, replicate, set, sym, ap, ◌∙◌, arith, append_assoc, rules}
 use Rattle.std.proofs.lemmas.List.{set_at, map_more, length-map, length-take-le}
 use Rattle.words.specs.declared.told.Told.{Told}
-use Rattle.logqueue.specs.Numbers.{floor_of}
-use Rattle.logqueue.proofs.LogQueue.recovered.Goals as goal
+use Rattle.interleave.specs.LogQueue.{floor_of}
+use Rattle.interleave.proofs.logqueue.LogQueue.recovered.Goals as goal
 
 -- one client more has its floor
 one_more : (told : List Told) (i x : ℕ) (d : Told) → length told ≡ 16 → i < 16 → x ≡ floor_of (get_or told i d) → set (map floor_of (take i told) ++ replicate (16 - i) 0) i x ≡ map floor_of (take (i + 1) told) ++ replicate (16 - (i + 1)) 0

@@ -3,7 +3,7 @@ use Rattle.std.proofs.lemmas.List.{length-replicate}
 use Rattle.std.proofs.lemmas.List.{set_at, replicate_more}
 use Rattle.words.specs.declared.told.Row.TheVariants.{NoCall}
 use Rattle.words.specs.declared.told.Told.TheVariants.{None as told_none, Row as told_row}
-use Rattle.durable.proofs.DurableQueue.new.Goals as goal
+use Rattle.interleave.proofs.durable.DurableQueue.new.Goals as goal
 
 -- one client more has called nothing
 one_more : (i : ℕ) → i < 16 → set (replicate i (told_row NoCall) ++ replicate (16 - i) told_none) i (told_row NoCall) ≡ replicate (i + 1) (told_row NoCall) ++ replicate (16 - (i + 1)) told_none

@@ -1,9 +1,8 @@
 //! The log queue: after a crash it tells each client what became of its last announced call. Calls have
 //! numbers, which rise.
-#![tactic(auto)]
 
 ghost use Rattle.std.specs.Prelude.{◌≡◌, ◌<◌, slice_get, slice_index, slice_set};
-ghost use Rattle.logqueue.specs.Numbers.{new_queue, told_queue, verdict_of, floor_of, is_stale};
+ghost use Rattle.interleave.specs.LogQueue.{new_queue, told_queue, verdict_of, floor_of, is_stale};
 
 use std::marker::Model;
 use words::{Client, MAX_CALL_NUMBER, MAX_CLIENTS, Outcome, Reports, Told, Verdict};
@@ -17,7 +16,7 @@ pub struct LogQueue {
 }
 
 impl Model for LogQueue {
-    ghost use Rattle.logqueue.specs.Queue.{LogClients};
+    ghost use Rattle.interleave.specs.LogQueue.{LogClients};
 
     ghost Value = { LogClients };
 
@@ -28,7 +27,7 @@ impl Model for LogQueue {
 
 impl LogQueue {
     /// A queue whose clients announced nothing yet.
-    pub fn new() -> Self
+    pub(crate) fn new() -> Self
         ensures { result ≡ new_queue }
     {
         LogQueue {
@@ -39,7 +38,7 @@ impl LogQueue {
 
     /// A queue whose clients are told this. Each one's floor is the number of a call that took effect, or
     /// below that of one that did not.
-    pub fn recovered(told: Reports) -> Self
+    pub(crate) fn recovered(told: Reports) -> Self
         ensures { result ≡ told_queue told }
     {
         let mut floors = [0; MAX_CLIENTS];
@@ -50,21 +49,21 @@ impl LogQueue {
     }
 
     /// Clients are told this from now on, and their floors stay: where a history begins anew.
-    pub fn tell(&mut self, told: Reports)
+    pub(crate) fn tell(&mut self, told: Reports)
         ensures { self.new ≡ record self.old { told = told } }
     {
         self.told = told;
     }
 
     /// What each client is told.
-    pub fn told(&self) -> &Reports
+    pub(crate) fn told(&self) -> &Reports
         ensures { result.now ≡ self.now.told }
     {
         &self.told
     }
 
     /// The verdict that a client was last told, if it was told one.
-    pub fn verdict(&self, client: Client) -> Option<Verdict>
+    pub(crate) fn verdict(&self, client: Client) -> Option<Verdict>
         ensures { result ≡ verdict_of (slice_get self.now.told client.0) }
     {
         match self.told.get(client.0 as usize) {
@@ -74,7 +73,7 @@ impl LogQueue {
     }
 
     /// Whether a number may not begin a call: it is 0, above the greatest, or not above the client's floor.
-    pub fn is_stale(&self, client: Client, number: u64) -> bool
+    pub(crate) fn is_stale(&self, client: Client, number: u64) -> bool
         requires { client.0 < MAX_CLIENTS }
         ensures { result ≡ is_stale (slice_index self.now.floors client.0) number }
     {
@@ -82,7 +81,7 @@ impl LogQueue {
     }
 
     /// Raises a client's floor to the number of a call that was answered.
-    pub fn returned(&mut self, client: Client, number: u64)
+    pub(crate) fn returned(&mut self, client: Client, number: u64)
         requires { client.0 < MAX_CLIENTS }
         ensures { self.new ≡ record self.old { floors = slice_set self.old.floors client.0 number } }
     {

@@ -1,4 +1,4 @@
--- Verdicts, and the floor of each client's numbers.
+-- What a log queue keeps for its clients: what they are told, verdicts among it, and the floor of each one's numbers.
 use Rattle.std.specs.Prelude.{ℕ, ◌-◌, Bool, ◌||◌, ◌==◌, nat_lt, nat_le, List, map, replicate, Option, Some, None}
 use Rattle.words.specs.declared.limits.TheConstants.{MAX_CALL_NUMBER, MAX_CLIENTS}
 use Rattle.words.specs.declared.told.Outcome.{Outcome}
@@ -6,7 +6,10 @@ use Rattle.words.specs.declared.told.Outcome.TheVariants.{NotTaken, Taken}
 use Rattle.words.specs.declared.told.Verdict.{Verdict}
 use Rattle.words.specs.declared.told.Told.{Told}
 use Rattle.words.specs.declared.told.Told.TheVariants.{None as told_none, Verdict as told_verdict, Row as told_row}
-use Rattle.logqueue.specs.Queue.{LogClients}
+
+pub record LogClients : Type 0 where
+  pub told : List Told
+  pub floors : List ℕ
 
 -- the verdict that a client is told
 abbrev pub verdict_of : Option Told → Option Verdict

@@ -1,8 +1,7 @@
 //! The durable queue: after a crash it tells each client what became of its last dequeue.
-#![tactic(auto)]
 
 ghost use Rattle.std.specs.Prelude.{◌≡◌, ◌≤◌, slice_get};
-ghost use Rattle.durable.specs.Rows.{no_calls, row_of};
+ghost use Rattle.interleave.specs.DurableQueue.{no_calls, row_of};
 
 use std::marker::Model;
 use words::{Client, MAX_CLIENTS, Reports, Row, Told};
@@ -26,7 +25,7 @@ impl Model for DurableQueue {
 
 impl DurableQueue {
     /// A queue of so many clients, none of which has called.
-    pub fn new(clients: u32) -> Self
+    pub(crate) fn new(clients: u32) -> Self
         requires { clients ≤ MAX_CLIENTS }
         ensures { result ≡ no_calls clients }
     {
@@ -38,21 +37,21 @@ impl DurableQueue {
     }
 
     /// A queue whose clients are told this.
-    pub fn recovered(told: Reports) -> Self
+    pub(crate) fn recovered(told: Reports) -> Self
         ensures { result ≡ told }
     {
         DurableQueue { told }
     }
 
     /// What each client is told.
-    pub fn told(&self) -> &Reports
+    pub(crate) fn told(&self) -> &Reports
         ensures { result.now ≡ self.now }
     {
         &self.told
     }
 
     /// What a client's row said when it was last read. A client that there is not has called nothing.
-    pub fn row(&self, client: Client) -> Row
+    pub(crate) fn row(&self, client: Client) -> Row
         ensures { result ≡ row_of (slice_get self.now client.0) }
     {
         match self.told.get(client.0 as usize) {
