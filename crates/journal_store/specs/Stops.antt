@@ -1,0 +1,11 @@
+-- What a stop of the machine leaves of the files.
+use Rattle.std.specs.Prelude.{ℕ, None, option_map, max, take}
+use Rattle.journal_store.specs.Folder.{File, Files}
+
+-- so many bytes of what was written are left, and at least those that were kept
+abbrev pub cut_to : ℕ → File → File
+cut_to left f = record f { text = take (max left f.kept) f.text }
+
+-- the journal's file is left so, and nothing of the fresh one
+abbrev pub stopped : ℕ → Files → Files
+stopped left fs = record { place = record fs.place { file = option_map (cut_to left) fs.place.file }; fresh = None }
