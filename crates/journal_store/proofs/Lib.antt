@@ -1,1 +1,2 @@
 mod Storing
+mod Cuts

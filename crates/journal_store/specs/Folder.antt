@@ -72,7 +72,11 @@ LeavesPlace old new = option_map (λ fs. fs.place) new ≡ option_map (λ fs. fs
 abbrev pub WritesPart : FileName → List ℕ → Option Files → Option Files → Type 0
 WritesPart name bytes old new = (n : ℕ) × (new ≡ option_map (changed name (written (take n bytes))) old)
 
--- the file has no more bytes than so many that were written
+-- the fresh file has the journal's name, or all stays
+abbrev pub MayRename : Option Files → Option Files → Type 0
+MayRename old new = (new ≡ old) ⊎ (new ≡ option_map renamed old)
+
+-- no more than so many bytes were written to the file
 abbrev pub IsWithin : FileName → ℕ → Option Files → Type 0
 IsWithin name size files = IfSome files (λ fs. IfSome (file_of name fs) (λ f. length f.text ≤ size))
 

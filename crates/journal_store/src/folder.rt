@@ -1,8 +1,8 @@
 //! The calls of a file system by which a journal is kept.
 
-ghost use Rattle.std.specs.Prelude.{◌≡◌, ◌⊎◌, Option, option_map, IfOk, OnErr, OnOk};
+ghost use Rattle.std.specs.Prelude.{◌≡◌, Option, option_map, IfOk, OnErr, OnOk};
 ghost use Rattle.journal_store.specs.Folder.{Files, IsReadThere, IsWithin, LeavesPlace, WritesPart, changed, created};
-ghost use Rattle.journal_store.specs.Folder.{lengthened, names_kept, renamed, synced, written};
+ghost use Rattle.journal_store.specs.Folder.{MayRename, lengthened, names_kept, renamed, synced, written};
 
 use devices::Failed;
 use journal::KEY_BYTES;
@@ -47,8 +47,7 @@ pub trait Folder {
     /// Gives the journal's name to the fresh file. Where that fails, it may have been given.
     fn rename(&mut self) -> Result<(), Failed>
         ensures renamed { OnOk result (files self.new ≡ option_map renamed (files self.old)) }
-        ensures either { OnErr result
-            ((files self.new ≡ files self.old) ⊎ (files self.new ≡ option_map renamed (files self.old))) };
+        ensures either { OnErr result (MayRename (files self.old) (files self.new)) };
 
     /// Keeps the names as they are.
     fn sync_names(&mut self) -> Result<(), Failed>

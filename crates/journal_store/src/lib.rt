@@ -5,6 +5,7 @@
 mod fault;
 mod folder;
 mod found;
+mod laws;
 mod memory;
 mod store;
 mod system;
@@ -12,6 +13,7 @@ mod system;
 pub use fault::Fault;
 pub use folder::{FileName, Folder};
 pub use found::Found;
+pub use laws::stops_leave_a_beginning_there;
 pub use memory::{Failing, MemoryFolder};
 pub use store::Store;
 pub use system::SystemFolder;
