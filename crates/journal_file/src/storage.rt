@@ -56,6 +56,7 @@ pub trait Storage {
         ensures bytes { result ≡ Err Unplaced.Stays → appended self.new ≡ appended self.old }
         ensures kept { result ≡ Err Unplaced.Stays → kept self.new ≡ kept self.old }
         ensures failed { result ≡ Err Unplaced.Stays → failed self.new ≡ failed self.old }
+        // What stands there is one of two, each with what of it is kept.
         ensures either { result ≡ Err Unplaced.Unknown
             → HasEither (appended self.old) (kept self.old) (appended self.new) (kept self.new) bytes.now }
         ensures over { result ≡ Err Unplaced.Unknown → failed self.new ≡ true };

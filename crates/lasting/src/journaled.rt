@@ -75,6 +75,8 @@ impl<J: Naming, S: Storage + Drop> Journaled<J, S> {
         ensures policy { IfOk result (λ k. k.policy ≡ policy) }
         ensures handed { IfOk result (λ k. k.handed ≡ handed.changes) }
         ensures all { IfOk result (λ k. k.pending ≡ []) }
+        ensures words { IfOk result (λ k. k.journal.words ≡ words.items) }
+        ensures kept { IfOk result (λ k. k.journal.kept ≡ k.journal.size) }
         ensures going { IfOk result (λ k. k.journal.failed ≡ false) }
     {
         let journal = Journal::begin(alloc, storage, key, words)?;

@@ -71,6 +71,7 @@ impl<J: Naming, S: Storage + Drop> Settler<J, S> {
         ensures handed { IfOk result (λ s. s.kept.handed ≡ handed.changes) }
         ensures all { IfOk result (λ s. s.kept.pending ≡ []) }
         ensures policy { IfOk result (λ s. s.policy ≡ policy) }
+        ensures settled { IfOk result (HasSettled J.first) }
         ensures going { IfOk result (λ s. s.failed ≡ false) }
     {
         let Ok(key) = storage.draw_key() else {
