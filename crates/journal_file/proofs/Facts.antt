@@ -1,2 +1,2 @@
 -- What crates above may cite of this one's proofs.
-pub use Rattle.journal_file.proofs.Restarts.{killed, stopped}
+pub use Rattle.journal_file.proofs.Restarts.{killed, running_if_known, stopped}

@@ -1,19 +1,16 @@
 -- What is left of a journal after a stop of the machine is read.
-use Rattle.std.proofs.Common.{◌≡◌, ℕ, zero, suc, ◌<◌, ◌≤◌, inl, inr, true, false, List, [], ◌∷◌, ◌++◌, Option, Some, None, Result, Ok, Err, length, take, arith, subst, sym, ap, ◌∙◌}
-use Rattle.std.specs.Prelude.{◌⊎◌, IfErr, IfOk, IfSome}
+use Rattle.std.proofs.Common.{◌≡◌, ℕ, zero, suc, ◌<◌, ◌≤◌, inl, inr, true, false, List, [], ◌∷◌, ◌++◌, Option, Some, None, Result, Ok, length, take, arith, subst, sym, ap, ◌∙◌}
+use Rattle.std.specs.Prelude.{◌⊎◌, IfSome}
 use Rattle.std.proofs.lemmas.Bool.{cases_lt}
 use Rattle.std.proofs.lemmas.List.{length-append, length-take, take_all, take-append-le, take-take}
-use Rattle.words.specs.declared.refusal.Refusal.{Refusal}
-use Rattle.words.specs.declared.refusal.Refusal.TheVariants.{BadCount, NoMemory, WriteFailed}
-use Rattle.persist.specs.Image.{AreWords}
 use Rattle.journal.specs.declared.fault.Fault.{Fault}
 use Rattle.journal.specs.Frame.{Batch, frame_of, frame_sum, frames_of, front_of}
-use Rattle.journal.specs.Journal.{IsJournal, MayNotBegin, head_front, head_of, head_sum, journal_of}
+use Rattle.journal.specs.Journal.{IsJournal, head_front, head_of, head_sum, journal_of}
 use Rattle.journal.specs.Reading.{Read, reading}
 use Rattle.journal.specs.Stops.{LeavesBatches, LeftByStop}
 use Rattle.journal.proofs.Facts.{cut_is_left, left_is_read, length-frame_of, length-sum_of, whole_journal_is_read}
-use Rattle.journal_file.specs.OnDevice.{GoesOn, HasPart, IsOf, OnDevice}
-use Rattle.journal_file.specs.Restart.{ReadsBeginning}
+use Rattle.journal_file.specs.OnDevice.{GoesOn, HasPart, IsAnew, IsLeftThere, IsOf, OnDevice}
+use Rattle.journal_file.specs.Restart.{IsReadAnew, ReadsBeginning, ReadsOneMore}
 
 -- ---- while it goes on
 
@@ -100,11 +97,11 @@ kept_of_known known bytes kept lasting is there = subst (λ (o : Option (List �
 pub killed : (key base : List ℕ) (batches : List Batch) (count : ℕ) (j : OnDevice) (bytes : List ℕ) (n : ℕ) → IsOf key base batches count j → j.failed ≡ false → j.appended ≡ Some bytes → j.lasting ≤ n → ReadsBeginning key base batches count (take n bytes)
 killed key base batches count j bytes n is going known long =
     let on : GoesOn key base batches j = is.going going in
-    let lasts : j.kept ≤ j.lasting = kept_of_known j.appended bytes j.kept j.lasting known is.lasting in
+    let lasts : j.kept ≤ j.lasting = kept_of_known j.appended bytes j.kept j.lasting known on.lasting in
     subst (λ (xs : List ℕ). ReadsBeginning key base batches count (take n xs)) (sym (known_text j.appended bytes (journal_of key base batches) known on.text))
     (cut_is_beginning key base batches count n is.journal is.some (omega (arith, is.kept, lasts, long)))
 
--- ---- and of one whose device failed
+-- ---- and of one whose storage failed
 
 cut_once_more : (key base : List ℕ) (batches : List Batch) (count n m : ℕ) → IsJournal key base batches → count ≤ length batches → length (journal_of key base (take count batches)) ≤ n → length (journal_of key base (take count batches)) ≤ m
     → ReadsBeginning key base batches count (take n (take m (journal_of key base batches)))
@@ -116,11 +113,9 @@ cut_once_more key base batches count n m is some long whole = elim (cases_lt m n
       subst (λ (xs : List ℕ). ReadsBeginning key base batches count xs) (sym (take-take n m (journal_of key base batches) less)) (cut_is_beginning key base batches count n is some long)
 ]
 
-pub failed : (key base : List ℕ) (batches : List Batch) (count : ℕ) (j : OnDevice) (bytes : List ℕ) (n : ℕ) → IsOf key base batches count j → j.failed ≡ true → j.appended ≡ Some bytes → j.lasting ≤ n
-    → (more : List Batch) × (length more ≤ 1) × ReadsBeginning key base (batches ++ more) count (take n bytes)
-failed key base batches count j bytes n is over known long =
-    let part : HasPart key base batches bytes = subst (λ (o : Option (List ℕ)). IfSome o (HasPart key base batches)) known (is.over over) in
-    let lasts : j.kept ≤ j.lasting = kept_of_known j.appended bytes j.kept j.lasting known is.lasting in
+part_read : (key base : List ℕ) (batches : List Batch) (count : ℕ) (j : OnDevice) (bytes : List ℕ) (n : ℕ) → IsOf key base batches count j → HasPart key base batches bytes → j.kept ≤ j.lasting → j.lasting ≤ n
+    → ReadsOneMore key base batches count (take n bytes)
+part_read key base batches count j bytes n is part lasts long =
     let some : count ≤ length (batches ++ part.more) = omega (arith, is.some, length-append batches part.more) in
     let same : length (journal_of key base (take count (batches ++ part.more))) ≡ length (journal_of key base (take count batches)) =
     ap (λ (bs : List Batch). length (journal_of key base bs)) (take-append-le count batches part.more is.some) in
@@ -132,20 +127,15 @@ failed key base batches count j bytes n is over known long =
           (cut_once_more key base (batches ++ part.more) count n part.n part.journal some first second),
     )
 
--- ---- a compaction
+anew_read : (words bytes : List ℕ) → IsAnew words bytes → IsReadAnew words bytes
+anew_read words bytes anew = (anew.key, ap reading anew.text ∙ whole_journal_is_read anew.key words [] anew.journal)
 
-pub compaction_read : (key words : List ℕ) (result : Result OnDevice Refusal) → IfOk result (IsOf key words [] 0) → IfOk result (λ j. j.failed ≡ false)
-    → IfOk result (λ j. IfSome j.appended (λ bytes. reading bytes ≡ Ok (record { key = key; words = words; cut = 0 })))
-compaction_read key words (Err e) is going = tt
-compaction_read key words (Ok j) is going = running_if_known key words [] 0 j words is going is.words
+left_read : (key base : List ℕ) (batches : List Batch) (count : ℕ) (j : OnDevice) (bytes : List ℕ) (n : ℕ) → IsOf key base batches count j → IsLeftThere key base batches j bytes → j.lasting ≤ n
+    → ReadsOneMore key base batches count (take n bytes) ⊎ IsReadAnew j.words bytes
+left_read key base batches count j bytes n is (inl part) long = inl (part_read key base batches count j bytes n is part.0 part.1 long)
+left_read key base batches count j bytes n is (inr anew) long = inr (anew_read j.words bytes anew)
 
-pub compaction_refused : (words : List ℕ) (result : Result OnDevice Refusal) → AreWords words
-    → IfErr result (λ e. (e ≡ BadCount) × MayNotBegin words ⊎ (e ≡ NoMemory) × AreWords words ⊎ (e ≡ WriteFailed) × AreWords words)
-    → IfErr result (λ e. (e ≡ NoMemory) ⊎ (e ≡ WriteFailed))
-compaction_refused words (Ok j) are errors = tt
-compaction_refused words (Err e) are (inl bad) = absurd (elim bad.1 [
-  | inl none ↦ omega (arith, none, are.some)
-  | inr many ↦ omega (arith, many, are.few)
-])
-compaction_refused words (Err e) are (inr (inl memory)) = inl memory.0
-compaction_refused words (Err e) are (inr (inr failed)) = inr failed.0
+pub failed : (key base : List ℕ) (batches : List Batch) (count : ℕ) (j : OnDevice) (bytes : List ℕ) (n : ℕ) → IsOf key base batches count j → j.failed ≡ true → j.appended ≡ Some bytes → j.lasting ≤ n
+    → ReadsOneMore key base batches count (take n bytes) ⊎ IsReadAnew j.words bytes
+failed key base batches count j bytes n is over known long =
+    left_read key base batches count j bytes n is (subst (λ (o : Option (List ℕ)). IfSome o (IsLeftThere key base batches j)) known (is.over over)) long

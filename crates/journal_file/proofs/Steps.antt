@@ -1,5 +1,5 @@
 -- A journal begins, has a batch more, and is kept.
-use Rattle.std.proofs.Common.{◌≡◌, ◌⊎◌, inr, ℕ, ◌+◌, ◌≤◌, Bool, true, false, List, [], ◌∷◌, ◌++◌, Option, Some, None, length, take, drop, arith, refl, subst, sym, ap, ◌∙◌}
+use Rattle.std.proofs.Common.{◌≡◌, ◌⊎◌, inl, inr, ℕ, ◌+◌, ◌≤◌, Bool, true, false, List, [], ◌∷◌, ◌++◌, Option, Some, None, length, take, drop, arith, refl, subst, sym, ap, ◌∙◌}
 use Rattle.std.specs.Prelude.{IfSome}
 use Rattle.std.specs.Io.KnownBytes.{append_known}
 use Rattle.std.proofs.Math.Seq.{take-append-add}
@@ -14,8 +14,8 @@ use Rattle.persist.specs.Noted.{applied}
 use Rattle.journal.specs.Journal.{MayRefuseFrame, End, IsJournal, end_behind, end_of, end_sum, head_of}
 use Rattle.journal.specs.Journal.{journal_of, words_after}
 use Rattle.journal.proofs.Facts.{end_more, is_journal_anew, is_journal_more, journal_more, length-words_after}
-use Rattle.journal_file.specs.Appended.{AppendsPart, IsAllKept, IsFresh}
-use Rattle.journal_file.specs.OnDevice.{GoesOn, HasMore, HasNoMore, HasPart, IsOf, KeepsAll, OnDevice}
+use Rattle.journal_file.specs.Appended.{AppendsPart, HasEither, HasJust, IsAllKept, IsJust}
+use Rattle.journal_file.specs.OnDevice.{GoesOn, HasMore, HasNoMore, HasPart, IsAnew, IsLeftThere, IsOf, KeepsAll, OnDevice}
 
 not_both : (b : Bool) → b ≡ false → b ≡ true → ⊥
 not_both b low high = false≢true (sym low ∙ high)
@@ -39,27 +39,25 @@ all_lasting (Some bytes) text kept lasting is all kept_is = omega (arith, all, k
 pub is_begun : (key words : List ℕ) → length key ≡ 8 → AreWords words → IsJournal key words []
 is_begun key words long are = record { key_long = long; base_words = are; each_batch = All-nil (IsBatchIn (length words)) }
 
--- its head was appended to a fresh device, and kept
-fresh_grown : (known : Option (List ℕ)) (head : List ℕ) → IsFresh known → IfSome (append_known known head) (λ bytes. bytes ≡ head)
-fresh_grown None head fresh = tt
-fresh_grown (Some bytes) head fresh = ap (λ (xs : List ℕ). xs ++ head) fresh
-
-pub is_of_head : (key words : List ℕ) (known : Option (List ℕ)) (head : List ℕ) (j : OnDevice) → length key ≡ 8 → AreWords words → IsFresh known → head ≡ head_of key words
-    → j.words ≡ words → j.end ≡ end_of key words [] → j.size ≡ length head → j.kept ≡ j.size → j.failed ≡ false → j.appended ≡ append_known known head → IsAllKept j.appended j.lasting → IsOf key words [] 0 j
-is_of_head key words known head j long are fresh head_is same end size kept going appended all =
+-- its head took the place, and is kept
+pub is_of_head : (key words head : List ℕ) (j : OnDevice) → length key ≡ 8 → AreWords words → head ≡ head_of key words
+    → j.words ≡ words → j.end ≡ end_of key words [] → j.size ≡ length head → j.kept ≡ j.size → j.failed ≡ false → HasJust j.appended j.lasting head → IsOf key words [] 0 j
+is_of_head key words head j long are head_is same end size kept going has =
     let text : journal_of key words [] ≡ head_of key words = append-nil (head_of key words) in
     let count : j.size ≡ length (journal_of key words []) = size ∙ ap (λ (xs : List ℕ). length xs) (head_is ∙ sym text) in
     let there : IfSome j.appended (λ bytes. bytes ≡ journal_of key words []) =
-    subst (λ (xs : List ℕ). IfSome j.appended (λ bytes. bytes ≡ xs)) (head_is ∙ sym text)
-    (subst (λ (o : Option (List ℕ)). IfSome o (λ bytes. bytes ≡ head)) (sym appended) (fresh_grown known head fresh)) in
+    subst (λ (xs : List ℕ). IfSome j.appended (λ bytes. bytes ≡ xs)) (head_is ∙ sym text) has.0 in
     record {
       journal = is_begun key words long are;
       words = same;
       size = count;
       some = omega arith;
       kept = kept ∙ count;
-      lasting = all_lasting j.appended (journal_of key words []) j.kept j.lasting there all (kept ∙ count);
-      going = λ _. record { end = end; text = there };
+      going = λ _. record {
+        end = end;
+        text = there;
+        lasting = all_lasting j.appended (journal_of key words []) j.kept j.lasting there has.1 (kept ∙ count);
+      };
       over = λ failed. absurd (not_both j.failed going failed);
     }
 
@@ -104,12 +102,12 @@ is_of_more key base batches count batch old new s is =
           ∙ ap (λ (xs : List ℕ). length xs) (sym text);
       some = omega (arith, is.some, length-append batches (batch ∷ []));
       kept = s.kept ∙ is.kept ∙ ap (λ (bs : List Batch). length (journal_of key base bs)) (sym (take-append-le count batches (batch ∷ []) is.some));
-      lasting =
-          subst (λ (known : Option (List ℕ)). IfSome known (λ bytes. new.kept ≤ new.lasting)) (sym s.appended)
-          (still_lasting old.appended (frame_of old.end.key old.end.sum batch) new.kept new.lasting
-          (subst (λ (kept : ℕ). IfSome old.appended (λ bytes. kept ≤ new.lasting)) (sym s.kept)
-          (subst (λ (lasting : ℕ). IfSome old.appended (λ bytes. old.kept ≤ lasting)) (sym s.lasting) is.lasting)));
       going = λ _. record {
+        lasting =
+            subst (λ (known : Option (List ℕ)). IfSome known (λ bytes. new.kept ≤ new.lasting)) (sym s.appended)
+            (still_lasting old.appended (frame_of old.end.key old.end.sum batch) new.kept new.lasting
+            (subst (λ (kept : ℕ). IfSome old.appended (λ bytes. kept ≤ new.lasting)) (sym s.kept)
+            (subst (λ (lasting : ℕ). IfSome old.appended (λ bytes. old.kept ≤ lasting)) (sym s.lasting) on.lasting)));
         end = s.end ∙ ap (λ (e : End). end_behind e batch) on.end ∙ sym (end_more key base batches batch);
         text =
             subst (λ (known : Option (List ℕ)). IfSome known (λ bytes. bytes ≡ journal_of key base (batches ++ batch ∷ []))) (sym s.appended)
@@ -167,31 +165,40 @@ has_no_part (Some bytes) key base batches is there =
           ∙ ap (λ (bs : List Batch). take (length (journal_of key base batches)) (journal_of key base bs)) (sym same);
     }
 
--- what is of a journal that goes on is of one whose device failed, which has a part more
-is_of_failed : (key base : List ℕ) (batches : List Batch) (count : ℕ) (old new : OnDevice) → HasFailed old new → IsOf key base batches count old
-    → IfSome new.appended (λ bytes. old.kept ≤ old.lasting) → IfSome new.appended (HasPart key base batches) → IsOf key base batches count new
-is_of_failed key base batches count old new s is lasting part = record {
+-- what is left there, which has what was kept
+left_there : (known : Option (List ℕ)) (key base : List ℕ) (batches : List Batch) (j : OnDevice) → IfSome known (HasPart key base batches) → IfSome known (λ bytes. j.kept ≤ j.lasting) → IfSome known (IsLeftThere key base batches j)
+left_there None key base batches j part lasting = tt
+left_there (Some bytes) key base batches j part lasting = inl (part, lasting)
+
+-- what is of a journal is of one whose storage failed, where this is left
+is_of_failed : (key base : List ℕ) (batches : List Batch) (count : ℕ) (old new : OnDevice) → new.failed ≡ true → new.words ≡ old.words → new.size ≡ old.size → new.kept ≡ old.kept → IsOf key base batches count old
+    → IfSome new.appended (IsLeftThere key base batches new) → IsOf key base batches count new
+is_of_failed key base batches count old new failed words size kept is left = record {
   journal = is.journal;
-  words = s.words ∙ is.words;
-  size = s.size ∙ is.size;
+  words = words ∙ is.words;
+  size = size ∙ is.size;
   some = is.some;
-  kept = s.kept ∙ is.kept;
-  lasting =
-      subst (λ (kept : ℕ). IfSome new.appended (λ bytes. kept ≤ new.lasting)) (sym s.kept)
-      (subst (λ (lasting : ℕ). IfSome new.appended (λ bytes. old.kept ≤ lasting)) (sym s.lasting) lasting);
-  going = λ going. absurd (not_both new.failed going s.is);
-  over = λ _. part;
+  kept = kept ∙ is.kept;
+  going = λ going. absurd (not_both new.failed going failed);
+  over = λ _. left;
 }
+
+-- it has a part more
+with_part : (key base : List ℕ) (batches : List Batch) (count : ℕ) (old new : OnDevice) → HasFailed old new → IsOf key base batches count old
+    → IfSome new.appended (λ bytes. old.kept ≤ old.lasting) → IfSome new.appended (HasPart key base batches) → IsOf key base batches count new
+with_part key base batches count old new s is lasting part =
+    is_of_failed key base batches count old new s.is s.words s.size s.kept is
+    (left_there new.appended key base batches new part
+    (subst (λ (kept : ℕ). IfSome new.appended (λ bytes. kept ≤ new.lasting)) (sym s.kept)
+    (subst (λ (lasting : ℕ). IfSome new.appended (λ bytes. old.kept ≤ lasting)) (sym s.lasting) lasting)))
 
 -- an append failed
 pub no_more_appended : (batch : Batch) (old new : OnDevice) → HasFailed old new → IsBatchIn old.end.size batch → AppendsPart old.appended new.appended (frame_of old.end.key old.end.sum batch) → HasNoMore old new
 no_more_appended batch old new s one part key base batches count is =
     let on : GoesOn key base batches old = is.going s.was in
-    let frame : List ℕ = frame_of old.end.key old.end.sum batch in
     let fits : IsBatchIn (length base) batch = subst (λ (e : End). IsBatchIn e.size batch) on.end one in
-    let taken : List ℕ = take part.0 (frame_of old.end.key old.end.sum batch) in
-    is_of_failed key base batches count old new s is
-    (subst (λ (known : Option (List ℕ)). IfSome known (λ bytes. old.kept ≤ old.lasting)) (sym part.1) (still_lasting old.appended (take part.0 (frame_of old.end.key old.end.sum batch)) old.kept old.lasting is.lasting))
+    with_part key base batches count old new s is
+    (subst (λ (known : Option (List ℕ)). IfSome known (λ bytes. old.kept ≤ old.lasting)) (sym part.1) (still_lasting old.appended (take part.0 (frame_of old.end.key old.end.sum batch)) old.kept old.lasting on.lasting))
     (subst (λ (known : Option (List ℕ)). IfSome known (HasPart key base batches)) (sym part.1)
     (has_part old.appended key base batches batch (frame_of old.end.key old.end.sum batch) part.0 (is_journal_more key base batches batch is.journal fits) (behind key base batches batch old.end on.end) on.text))
 
@@ -199,9 +206,59 @@ no_more_appended batch old new s one part key base batches count is =
 pub no_more_kept : (old new : OnDevice) → HasFailed old new → new.appended ≡ old.appended → HasNoMore old new
 no_more_kept old new s same key base batches count is =
     let on : GoesOn key base batches old = is.going s.was in
-    is_of_failed key base batches count old new s is
-    (subst (λ (known : Option (List ℕ)). IfSome known (λ bytes. old.kept ≤ old.lasting)) (sym same) is.lasting)
+    with_part key base batches count old new s is
+    (subst (λ (known : Option (List ℕ)). IfSome known (λ bytes. old.kept ≤ old.lasting)) (sym same) on.lasting)
     (subst (λ (known : Option (List ℕ)). IfSome known (HasPart key base batches)) (sym same) (has_no_part old.appended key base batches is.journal on.text))
+
+-- ---- another journal was to take the place, and was not seen to
+
+-- the head of the words, under this key, may have taken the place
+pub record MayBeAnew (key head : List ℕ) (old new : OnDevice) : Type 0 where
+  pub is : new.failed ≡ true
+  pub words : new.words ≡ old.words
+  pub size : new.size ≡ old.size
+  pub kept : new.kept ≡ old.kept
+  pub key_long : length key ≡ 8
+  pub are : AreWords old.words
+  pub head_is : head ≡ head_of key old.words
+  pub either : HasEither old.appended old.lasting new.appended new.lasting head
+
+by_cases : (b : Bool) → (b ≡ false) ⊎ (b ≡ true)
+by_cases false = inl refl
+by_cases true = inr refl
+
+-- what was left stays left
+still_left : (key base : List ℕ) (batches : List Batch) (count : ℕ) (old : OnDevice) → IsOf key base batches count old → (old.failed ≡ false) ⊎ (old.failed ≡ true) → IfSome old.appended (IsLeftThere key base batches old)
+still_left key base batches count old is (inl going) =
+    let on : GoesOn key base batches old = is.going going in
+    left_there old.appended key base batches old (has_no_part old.appended key base batches is.journal on.text) on.lasting
+still_left key base batches count old is (inr over) = is.over over
+
+left_as_before : (key base : List ℕ) (batches : List Batch) (old new : OnDevice) (known : Option (List ℕ)) → new.words ≡ old.words → new.kept ≡ old.kept → new.lasting ≡ old.lasting → IfSome known (IsLeftThere key base batches old) → IfSome known (IsLeftThere key base batches new)
+left_as_before key base batches old new None words kept lasting left = tt
+left_as_before key base batches old new (Some bytes) words kept lasting (inl part) = inl (part.0, omega (arith, part.1, kept, lasting))
+left_as_before key base batches old new (Some bytes) words kept lasting (inr anew) = inr (subst (λ (ws : List ℕ). IsAnew ws bytes) (sym words) anew)
+
+left_anew : (key base : List ℕ) (batches : List Batch) (other words head : List ℕ) (new : OnDevice) (known : Option (List ℕ)) → length other ≡ 8 → AreWords words → new.words ≡ words → head ≡ head_of other words → IsJust known head → IfSome known (IsLeftThere key base batches new)
+left_anew key base batches other words head new None long are same head_is just = tt
+left_anew key base batches other words head new (Some bytes) long are same head_is just =
+    inr (subst (λ (ws : List ℕ). IsAnew ws bytes) (sym same) (record {
+      key = other;
+      journal = is_begun other words long are;
+      text = just ∙ head_is ∙ sym (append-nil (head_of other words));
+    }))
+
+left_of_either : (key base : List ℕ) (batches : List Batch) (count : ℕ) (other head : List ℕ) (old new : OnDevice) (s : MayBeAnew other head old new) → IsOf key base batches count old
+    → HasEither old.appended old.lasting new.appended new.lasting head → IfSome new.appended (IsLeftThere key base batches new)
+left_of_either key base batches count other head old new s is (inl same) =
+    subst (λ (known : Option (List ℕ)). IfSome known (IsLeftThere key base batches new)) (sym same.0)
+    (left_as_before key base batches old new old.appended s.words s.kept same.1 (still_left key base batches count old is (by_cases old.failed)))
+left_of_either key base batches count other head old new s is (inr just) =
+    left_anew key base batches other old.words head new new.appended s.key_long s.are s.words s.head_is just
+
+pub no_more_anew : (key head : List ℕ) (old new : OnDevice) → MayBeAnew key head old new → HasNoMore old new
+no_more_anew other head old new s key base batches count is =
+    is_of_failed key base batches count old new s.is s.words s.size s.kept is (left_of_either key base batches count other head old new s is s.either)
 
 -- ---- all is kept
 
@@ -227,8 +284,11 @@ keeps_all old new s key base batches count is =
       size = s.size ∙ is.size;
       some = omega arith;
       kept = s.kept ∙ is.size ∙ ap (λ (bs : List Batch). length (journal_of key base bs)) (sym all);
-      lasting = all_lasting new.appended (journal_of key base batches) new.kept new.lasting there s.lasting (s.kept ∙ is.size);
-      going = λ _. record { end = s.end ∙ on.end; text = there };
+      going = λ _. record {
+        end = s.end ∙ on.end;
+        text = there;
+        lasting = all_lasting new.appended (journal_of key base batches) new.kept new.lasting there s.lasting (s.kept ∙ is.size);
+      };
       over = λ failed. absurd (not_both new.failed s.is failed);
     }
 
@@ -259,10 +319,10 @@ on words end size kept appended lasting failed = record {
   failed = failed;
 }
 
-pub head_done : (key words : List ℕ) (known : Option (List ℕ)) (head : List ℕ) (end : End) (size : ℕ) (new_known : Option (List ℕ)) (lasting : ℕ) (failed : Bool) → length key ≡ 8 → AreWords words → IsFresh known → head ≡ head_of key words
-    → end ≡ end_of key words [] → size ≡ length head → failed ≡ false → new_known ≡ append_known known head → IsAllKept new_known lasting → IsOf key words [] 0 (on words end size size new_known lasting failed)
-head_done key words known head end size new_known lasting failed long are fresh head_is goes count going appended all =
-    is_of_head key words known head (on words end size size new_known lasting failed) long are fresh head_is refl goes count refl going appended all
+pub head_done : (key words head : List ℕ) (end : End) (size : ℕ) (known : Option (List ℕ)) (lasting : ℕ) (failed : Bool) → length key ≡ 8 → AreWords words → head ≡ head_of key words
+    → end ≡ end_of key words [] → size ≡ length head → failed ≡ false → HasJust known lasting head → IsOf key words [] 0 (on words end size size known lasting failed)
+head_done key words head end size known lasting failed long are head_is goes count going has =
+    is_of_head key words head (on words end size size known lasting failed) long are head_is refl goes count refl going has
 
 pub keep_failed : (words : List ℕ) (end : End) (size kept : ℕ) (known new_known : Option (List ℕ)) (lasting new_lasting : ℕ) (failed new_failed : Bool) → failed ≡ false → new_failed ≡ true → new_known ≡ known → new_lasting ≡ lasting
     → HasNoMore (on words end size kept known lasting failed) (on words end size kept new_known new_lasting new_failed)

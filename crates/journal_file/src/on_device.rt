@@ -1,9 +1,9 @@
-//! A journal on a device.
+//! A journal in a storage.
 
-ghost use Rattle.std.specs.Prelude.{◌≡◌, ◌⊎◌, [], Err, true, false, IfOk, IfErr, IfSome, OnOk, OnErr};
+ghost use Rattle.std.specs.Prelude.{◌≡◌, ◌≢◌, [], Err, true, false, IfOk, IfErr, OnOk, OnErr};
 
-use crate::appender::{Appender, append_and_keep};
-use crate::numbers::{apply, copy_of};
+use crate::numbers::apply;
+use crate::storage::{Storage, Unplaced};
 use journal::{KEY_BYTES, Writer};
 use persist::Change;
 use std::alloc::Global;
@@ -13,17 +13,28 @@ use words::Refusal;
 /// The most bytes of a journal to which a frame is appended.
 pub const MAX_SIZE: u64 = 0x8000_0000_0000_0000;
 
-/// Words that are changed by batches, and the device that has the journal of these.
+/// Why a journal does not go on as its words and no batch.
+#[derive(Clone, Copy, Debug, PartialEq, Eq)]
+pub enum Uncompacted {
+    /// There was no memory for it. All stays.
+    NoMemory,
+    /// It could not be written beside the journal, which stays as it is.
+    WriteFailed,
+    /// It may have taken the place of the journal or not. Nothing is appended to either.
+    Unknown,
+}
+
+/// Words that are changed by batches, and the storage at whose place the journal of these stands.
 #[derive(Drop)]
-pub struct Journal<F: Appender + Drop> {
+pub struct Journal<S: Storage + Drop> {
     words: Vec<u64>,
     writer: Writer,
     size: u64,
     kept: u64,
-    device: F,
+    storage: S,
 }
 
-impl<F: Appender + Drop> Model for Journal<F> {
+impl<S: Storage + Drop> Model for Journal<S> {
     ghost use Rattle.journal_file.specs.OnDevice.{IsSomeJournal, OnDevice};
 
     ghost Value = { OnDevice };
@@ -33,9 +44,9 @@ impl<F: Appender + Drop> Model for Journal<F> {
       end = j.writer;
       size = j.size;
       kept = j.kept;
-      appended = F.appended j.device;
-      lasting = F.kept j.device;
-      failed = F.failed j.device;
+      appended = S.appended j.storage;
+      lasting = S.kept j.storage;
+      failed = S.failed j.storage;
     } };
 
     ghost invariant = { λ j. IsSomeJournal (record {
@@ -43,37 +54,34 @@ impl<F: Appender + Drop> Model for Journal<F> {
       end = j.writer;
       size = j.size;
       kept = j.kept;
-      appended = F.appended j.device;
-      lasting = F.kept j.device;
-      failed = F.failed j.device;
+      appended = S.appended j.storage;
+      lasting = S.kept j.storage;
+      failed = S.failed j.storage;
     }) };
 }
 
-impl<F: Appender + Drop> Journal<F> {
+impl<S: Storage + Drop> Journal<S> {
     ghost use Rattle.persist.specs.Noted.{applied};
     ghost use Rattle.journal.specs.Frame.{batch_of};
-    ghost use Rattle.journal.specs.Reading.{ReadsAs};
-    ghost use Rattle.journal_file.specs.Appended.{IsFresh};
     ghost use Rattle.journal_file.specs.OnDevice.{HasMore, HasNoMore, IsOf, IsSomeJournal, KeepsAll};
     ghost use Rattle.journal_file.specs.OnDevice.{MayRefuseAppend, MayRefuseBegin};
 
-    /// A journal of these words and no batch, which is kept. The device is to have no byte yet. It is refused where
-    /// there is no word, or there are more than 8,388,608 (BadCount), then where memory is (NoMemory), and where the
-    /// device fails, or has failed before (WriteFailed). Then the device is let go, and may have a part of a head.
+    /// A journal of these words and no batch, which is kept: it takes the place of what stands in the storage. It is
+    /// refused where there is no word, or there are more than 8,388,608 (BadCount), then where memory is (NoMemory), and
+    /// where the storage fails (WriteFailed). Then the storage is let go, and what stood there may have its place or not.
     pub fn begin(
         alloc: Global,
-        device: F,
+        storage: S,
         key: &[u8; KEY_BYTES],
         words: Vec<u64>,
     ) -> Result<Self, Refusal>
-        requires { IsFresh (F.appended device) }
         ensures journal { IfOk result (IsOf key.now words.items [] 0) }
         ensures going { IfOk result (λ j. j.failed ≡ false) }
         ensures errors { IfErr result (MayRefuseBegin words.items) }
     {
         let (head, writer) = Writer::begin(alloc, key, &words)?;
-        let mut device = device;
-        if append_and_keep(&mut device, &head).is_err() {
+        let mut storage = storage;
+        if storage.replace(&head).is_err() {
             return Err(Refusal::WriteFailed);
         }
         let size = head.len() as u64;
@@ -82,7 +90,7 @@ impl<F: Appender + Drop> Journal<F> {
             writer,
             size,
             kept: size,
-            device,
+            storage,
         })
     }
 
@@ -108,26 +116,34 @@ impl<F: Appender + Drop> Journal<F> {
         self.kept
     }
 
-    /// Whether the device has failed. Then nothing is appended any more.
+    /// Whether the storage has failed. Then nothing is appended any more, unless the journal is compacted.
     pub fn has_failed(&self) -> bool
         ensures { result ≡ self.now.failed }
     {
-        self.device.has_failed()
+        self.storage.has_failed()
     }
 
-    /// The device.
-    pub fn device(&self) -> &F
-        ensures appended { F.appended result.now ≡ self.now.appended }
-        ensures kept { F.kept result.now ≡ self.now.lasting }
-        ensures failed { F.failed result.now ≡ self.now.failed }
+    /// The storage.
+    pub fn storage(&self) -> &S
+        ensures appended { S.appended result.now ≡ self.now.appended }
+        ensures kept { S.kept result.now ≡ self.now.lasting }
+        ensures failed { S.failed result.now ≡ self.now.failed }
     {
-        &self.device
+        &self.storage
     }
 
-    /// Appends a batch, as one frame, and then makes its changes in the words. It is refused where the device has
+    /// The storage alone.
+    pub fn into_storage(self) -> S
+        ensures appended { S.appended result ≡ self.appended }
+        ensures kept { S.kept result ≡ self.lasting }
+    {
+        self.storage
+    }
+
+    /// Appends a batch, as one frame, and then makes its changes in the words. It is refused where the storage has
     /// failed before (WriteFailed), where the journal has more than [`MAX_SIZE`] bytes (NoRoom), where there is no
     /// change or there are more than 16,777,216 (BadCount), where one is of a word that is not there (NoWord), and
-    /// where memory is refused (NoMemory). Then all stays. Where the device fails now (WriteFailed), it may have a part
+    /// where memory is refused (NoMemory). Then all stays. Where the storage fails now (WriteFailed), it may have a part
     /// of the frame, or all of it, and the words stay.
     pub fn append(&mut self, alloc: Global, changes: &[Change]) -> Result<(), Refusal>
         ensures journal { OnOk result (HasMore (batch_of self.old.kept changes.now) self.old self.new) }
@@ -139,7 +155,7 @@ impl<F: Appender + Drop> Journal<F> {
         ensures over { self.old.failed ≡ true → (self.new ≡ self.old) × (result ≡ Err Refusal.WriteFailed) }
         ensures errors { IfErr result (MayRefuseAppend self.old changes.now self.new) }
     {
-        if self.device.has_failed() {
+        if self.storage.has_failed() {
             return Err(Refusal::WriteFailed);
         }
         if self.size > MAX_SIZE {
@@ -149,7 +165,7 @@ impl<F: Appender + Drop> Journal<F> {
         if let Err(refusal) = self.writer.frame(&mut frame, self.kept, changes) {
             return Err(refusal);
         }
-        if self.device.append(&frame).is_err() {
+        if self.storage.append(&frame).is_err() {
             return Err(Refusal::WriteFailed);
         }
         self.size += frame.len() as u64;
@@ -157,7 +173,7 @@ impl<F: Appender + Drop> Journal<F> {
         Ok(())
     }
 
-    /// Keeps all batches that were appended. It is refused where the device fails, or has failed before (WriteFailed).
+    /// Keeps all batches that were appended. It is refused where the storage fails, or has failed before (WriteFailed).
     pub fn keep(&mut self) -> Result<(), Refusal>
         ensures journal { OnOk result (KeepsAll self.old self.new) }
         ensures kept { OnOk result (self.new.kept ≡ self.old.size) }
@@ -172,31 +188,36 @@ impl<F: Appender + Drop> Journal<F> {
         if self.has_failed() {
             return Err(Refusal::WriteFailed);
         }
-        if self.device.keep().is_err() {
+        if self.storage.keep().is_err() {
             return Err(Refusal::WriteFailed);
         }
         self.kept = self.size;
         Ok(())
     }
 
-    /// A journal of the same words and no batch, on another device, which is to have no byte yet. This one stays, also
-    /// where its device has failed. It is refused where memory is (NoMemory), and where the other device fails
-    /// (WriteFailed).
-    pub fn compacted(
-        &self,
-        alloc: Global,
-        device: F,
-        key: &[u8; KEY_BYTES],
-    ) -> Result<Journal<F>, Refusal>
-        requires { IsFresh (F.appended device) }
-        ensures journal { IfOk result (IsOf key.now self.now.words [] 0) }
-        ensures going { IfOk result (λ j. j.failed ≡ false) }
-        ensures reads { IfOk result (λ j. IfSome j.appended (ReadsAs key.now self.now.words 0)) }
-        ensures errors { IfErr result (λ e. (e ≡ Refusal.NoMemory) ⊎ (e ≡ Refusal.WriteFailed)) }
+    /// Goes on as a journal of its words and no batch, which takes the place of this one, also where the storage had
+    /// failed. Where that is refused, this one stays as it is; but where it is not known which one has the place, the
+    /// storage has failed, and both have all batches that were appended.
+    pub fn compact(&mut self, alloc: Global, key: &[u8; KEY_BYTES]) -> Result<(), Uncompacted>
+        ensures journal { OnOk result (IsOf key.now self.old.words [] 0 self.new) }
+        ensures going { OnOk result (self.new.failed ≡ false) }
+        ensures words { self.new.words ≡ self.old.words }
+        ensures no_more { OnErr result (HasNoMore self.old self.new) }
+        ensures same { IfErr result (λ e. e ≢ Uncompacted.Unknown → self.new ≡ self.old) }
+        ensures over { result ≡ Err Uncompacted.Unknown → self.new.failed ≡ true }
     {
-        let Ok(words) = copy_of(alloc, &self.words) else {
-            return Err(Refusal::NoMemory);
+        // A journal has words, and not too many.
+        let Ok((head, writer)) = Writer::begin(alloc, key, &self.words) else {
+            return Err(Uncompacted::NoMemory);
         };
-        Journal::begin(alloc, device, key, words)
+        match self.storage.replace(&head) {
+            Ok(()) => {}
+            Err(Unplaced::Stays) => return Err(Uncompacted::WriteFailed),
+            Err(Unplaced::Unknown) => return Err(Uncompacted::Unknown),
+        }
+        self.writer = writer;
+        self.size = head.len() as u64;
+        self.kept = self.size;
+        Ok(())
     }
 }

@@ -1,1 +1,4 @@
+pub mod Folder
 pub mod Found
+pub mod Stops
+pub mod Stored

@@ -4,18 +4,21 @@ use Rattle.std.proofs.lemmas.Bool.{cases_eq, eq-eqb, ne_eqb}
 use Rattle.std.proofs.lemmas.List.Sums.{fold-append}
 use Rattle.std.proofs.lemmas.List.{take-append-le, take_all}
 use Rattle.std.proofs.lemmas.List.Elements.{All-contains, All-nil, All-push}
-use Rattle.std.specs.Prelude.{All, Contains, None, OnErr, OnOk, is_err}
+use Rattle.std.specs.Prelude.{All, Contains, IfSome, None, OnErr, OnOk, Option, is_err}
 use Rattle.words.specs.declared.refusal.Refusal.{Refusal}
 use Rattle.persist.specs.declared.access.Change.{Change}
 use Rattle.persist.specs.Noted.{applied, change_made}
 use Rattle.journal.specs.Frame.{Batch}
 use Rattle.journal.specs.Journal.{journal_of, words_after}
+use Rattle.journal.specs.Reading.{ReadsAs}
 use Rattle.journal.specs.Stops.{LeftByStop}
-use Rattle.journal_file.specs.OnDevice.{HasMore, HasNoMore, IsOf, KeepsAll, OnDevice}
+use Rattle.journal.proofs.Facts.{cut_is_left}
+use Rattle.journal_file.specs.OnDevice.{HasMore, HasNoMore, IsOf, IsSomeJournal, KeepsAll, OnDevice}
 use Rattle.journal_file.specs.Restart.{ReadsBeginning}
-use Rattle.journal_file.proofs.Facts.{killed, stopped}
+use Rattle.journal_file.proofs.Facts.{killed, running_if_known, stopped}
 use Rattle.lasting.specs.Lasting.{AreMoments, Assures, EndsAtMomentOf, HasMoments, HasMomentsUntil, IsKept, IsKeptBy, Kept}
 use Rattle.lasting.specs.Lasting.{ReadsLater, ReadsMoment, sure_session}
+use Rattle.lasting.specs.Settling.{HasSettled, LastsBy, Settled, StandsAs}
 use Rattle.lasting.specs.declared.policy.Policy.{Policy}
 use Rattle.lasting.specs.declared.policy.Policy.TheVariants.{Always, EachSecond, Never}
 use Rattle.session.specs.Promises.{KeepsNumbers}
@@ -354,7 +357,6 @@ all_kept key base batches count j of same = record {
   some = omega arith;
   kept = same ∙ of.size
       ∙ ap (λ (bs : List Batch). length (journal_of key base bs)) (sym (take_all (length batches) batches (omega arith)));
-  lasting = of.lasting;
   going = of.going;
   over = of.over;
 }
@@ -434,7 +436,7 @@ kept_appended first k new pending changes is none those more words =
     (has_more first k.last batch k.journal new is.journal more moment)
     (all_later k.assured _ _ is.assured (sure_more first k.last k.policy batch k.journal new is.journal more moment))
 
--- it was not, or something else of the device changed
+-- it was not, or something else of the storage changed
 pub kept_no_more : (first : Sessioned) (k : Kept) (new : OnDevice) → IsKept first k → HasNoMore k.journal new
     → new.words ≡ k.journal.words → IsKept first (record k { journal = new })
 kept_no_more first k new is same words = record {
@@ -549,6 +551,13 @@ kept_compacted first k key new is of =
       assured = all_later k.assured _ _ is.assured (sure_compacted first k.last k.policy key k.journal new until of);
     }
 
+-- by a compaction
+pub kept_compacting : {E : Type 0} (first : Sessioned) (k : Kept) (key : List ℕ) (new : OnDevice) (answer : Result (Unit {0}) E)
+    → IsKept first k → OnOk answer (IsOf key k.journal.words [] 0 new) → OnErr answer (HasNoMore k.journal new)
+    → new.words ≡ k.journal.words → IsKept first (record k { journal = new })
+kept_compacting {E} first k key new (Ok done) is of same words = kept_compacted first k key new is of
+kept_compacting {E} first k key new (Err e) is of same words = kept_no_more first k new is same words
+
 -- what a stop leaves of a journal that assures a session, also of power where the policy is to keep always
 pub stopped_later : (first s : Sessioned) (j : OnDevice) (left : List ℕ) (a : Assures first Always s j)
     → LeftByStop a.has.key a.has.base a.has.batches j.kept left → ReadsLater first s j a.has left
@@ -560,7 +569,7 @@ stopped_later first s j left a stop =
       later = later_still s (has.session has.count) (has.session reads.whole) a.later (reads.later has.count reads.those);
     }
 
--- as if all had been kept, on a device of which nothing is known
+-- as if all had been kept, in a storage of which nothing is known
 whole_kept : (key base : List ℕ) (batches : List Batch) (count : ℕ) (j : OnDevice) → IsOf key base batches count j
     → IsOf key base batches (length batches) (record j { kept = j.size; appended = None; failed = true })
 whole_kept key base batches count j of = record {
@@ -570,7 +579,6 @@ whole_kept key base batches count j of = record {
   some = omega arith;
   kept = of.size
       ∙ ap (λ (bs : List Batch). length (journal_of key base bs)) (sym (take_all (length batches) batches (omega arith)));
-  lasting = tt;
   going = λ going. absurd (true≢false going);
   over = λ failed. tt;
 }
@@ -603,3 +611,62 @@ killed_later first s policy j left a stop =
     sure_read Always one other = one
     sure_read EachSecond one other = other
     sure_read Never one other = other
+
+-- what stands at the place of a storage that has not failed is its text, of which nothing is lost
+all_is_left : (key base : List ℕ) (batches : List Batch) (count : ℕ) (j : OnDevice) (bytes : List ℕ) → IsOf key base batches count j
+    → j.failed ≡ false → j.appended ≡ Some bytes → LeftByStop key base batches j.size bytes
+all_is_left key base batches count j bytes of going known =
+    let text : bytes ≡ journal_of key base batches =
+    subst (λ (o : Option (List ℕ)). IfSome o (λ xs. xs ≡ journal_of key base batches)) known (of.going going).text in
+    let all : take (length batches) batches ≡ batches = take_all (length batches) batches (omega arith) in
+    let whole : length (journal_of key base (take (length batches) batches)) ≡ length (journal_of key base batches) =
+    ap (λ (bs : List Batch). length (journal_of key base bs)) all in
+    subst (λ (xs : List ℕ). LeftByStop key base batches j.size xs) (sym text)
+    (subst (λ (n : ℕ). LeftByStop key base batches n (journal_of key base batches)) (whole ∙ sym of.size)
+    (subst (λ (xs : List ℕ). LeftByStop key base batches (length (journal_of key base (take (length batches) batches))) xs)
+    (take_all (length (journal_of key base batches)) (journal_of key base batches) (omega arith))
+    (cut_is_left key base batches (length (journal_of key base batches)) (length batches) of.journal (omega (arith, whole)))))
+
+pub there_later : (first s : Sessioned) (policy : Policy) (j : OnDevice) (bytes : List ℕ) (a : Assures first policy s j)
+    → j.failed ≡ false → j.appended ≡ Some bytes → ReadsLater first s j a.has bytes
+there_later first s policy j bytes a going known =
+    let has = a.has in
+    killed_later first s policy j bytes a (all_is_left has.key has.base has.batches has.count j bytes has.of going known)
+
+-- a beginning of it that has all that was kept
+pub lost_later : (first s : Sessioned) (j : OnDevice) (bytes : List ℕ) (n : ℕ) (a : Assures first Always s j)
+    → j.failed ≡ false → j.appended ≡ Some bytes → j.lasting ≤ n → ReadsLater first s j a.has (take n bytes)
+lost_later first s j bytes n a going known long =
+    let has = a.has in
+    let reads =
+    killed_moment first has.key has.base has.batches has.count j has.session bytes n has.moments has.of going known long in
+    record {
+      reads = reads;
+      later = later_still s (has.session has.count) (has.session reads.whole) a.later (reads.later has.count reads.those);
+    }
+
+-- what is settled stands there
+stands_as : (known : Option (List ℕ)) (key words : List ℕ) → IfSome known (ReadsAs key words 0)
+    → IfSome known (λ bytes. (other : List ℕ) × ReadsAs other words 0 bytes)
+stands_as None key words read = tt
+stands_as (Some bytes) key words read = (key, read)
+
+pub settled_there : (first : Sessioned) (s : Settled) → IsSomeJournal s.kept.journal → HasSettled first s
+    → StandsAs (applied s.kept.handed first.broker.words.kept) s.kept.journal
+settled_there first s of settled =
+    stands_as s.kept.journal.appended of.0 (applied s.kept.handed first.broker.words.kept)
+    (running_if_known of.0 of.1 of.2 of.3 s.kept.journal (applied s.kept.handed first.broker.words.kept) of.4 settled.going settled.words)
+
+lasts_as : (known : Option (List ℕ)) (text : List ℕ) (kept lasting : ℕ) → IfSome known (λ bytes. bytes ≡ text)
+    → IfSome known (λ bytes. kept ≤ lasting) → length text ≤ kept → IfSome known (λ bytes. length bytes ≤ lasting)
+lasts_as None text kept lasting there some all = tt
+lasts_as (Some bytes) text kept lasting there some all = omega (arith, some, all, ap (λ (xs : List ℕ). length xs) there)
+
+pub settled_lasts : (first : Sessioned) (k : Kept) (policy : Policy) (failed : Bool) → IsSomeJournal k.journal
+    → HasSettled first (record { kept = k; policy = policy; failed = failed }) → LastsBy policy k.journal
+settled_lasts first k Always failed of settled =
+    let on = (of.4).going settled.going in
+    lasts_as k.journal.appended (journal_of of.0 of.1 of.2) k.journal.kept k.journal.lasting on.text on.lasting
+    (omega (arith, (of.4).size, settled.by_policy))
+settled_lasts first k EachSecond failed of settled = tt
+settled_lasts first k Never failed of settled = tt

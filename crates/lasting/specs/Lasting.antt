@@ -89,7 +89,7 @@ pub record IsKept (first : Sessioned) (k : Kept) : Type 0 where
   pub latest : k.pending ≡ [] → EndsAtMomentOf first k.last k.journal
   pub assured : All (λ s. GoesOnLater s (sure_session first k.journal k.policy journal.has)) k.assured
 
--- so it is of each journal that has moments; and of each of those whose device has not failed
+-- so it is of each journal that has moments; and of each of those whose storage has not failed
 abbrev pub IsSoOfMoments : ((first : Sessioned) (j : OnDevice) → HasMoments first j → Type 0) → Type 0
 IsSoOfMoments IsSo = (first : Sessioned) (j : OnDevice) (has : HasMoments first j) → IsSo first j has
 
@@ -115,7 +115,7 @@ EachStopHasMoment first j has =
     (left : List ℕ) → LeftByStop has.key has.base has.batches j.kept left
     → ReadsMoment first has.key has.base has.batches has.count has.session left
 
--- and whatever is left where its device loses nothing from the front on but what was not kept
+-- and whatever is left of what stands at its place, from the front on and all that was kept at least
 abbrev pub EachKillHasMoment : (first : Sessioned) (j : OnDevice) → HasMoments first j → Type 0
 EachKillHasMoment first j has =
     (bytes : List ℕ) (n : ℕ) → j.appended ≡ Some bytes → j.lasting ≤ n
@@ -130,3 +130,12 @@ pub record ReadsLater (first s : Sessioned) (j : OnDevice) (has : HasMoments fir
 abbrev pub EachStopHasLater : (first s : Sessioned) (j : OnDevice) → HasMoments first j → ℕ → Type 0
 EachStopHasLater first s j has kept =
     (left : List ℕ) → LeftByStop has.key has.base has.batches kept left → ReadsLater first s j has left
+
+-- so is what is left of what stands at its place, from the front on and all that was kept at least
+abbrev pub EachBeginningHasLater : (first s : Sessioned) (j : OnDevice) → HasMoments first j → Type 0
+EachBeginningHasLater first s j has =
+    (bytes : List ℕ) (n : ℕ) → j.appended ≡ Some bytes → j.lasting ≤ n → ReadsLater first s j has (take n bytes)
+
+-- and all that stands there
+abbrev pub HasLaterThere : (first s : Sessioned) (j : OnDevice) → HasMoments first j → Type 0
+HasLaterThere first s j has = (bytes : List ℕ) → j.appended ≡ Some bytes → ReadsLater first s j has bytes

@@ -1,6 +1,6 @@
 //! The journal of a shared session.
 
-ghost use Rattle.std.specs.Prelude.{◌≡◌, ◌⊎◌, ◌++◌, ◌∷◌, [], false, true, IfErr, IfOk, OnErr, OnOk};
+ghost use Rattle.std.specs.Prelude.{◌≡◌, ◌≢◌, ◌++◌, ◌∷◌, [], Err, false, true, IfErr, IfOk, OnErr, OnOk};
 ghost use Rattle.persist.specs.Noted.{applied};
 ghost use Rattle.lasting.specs.Lasting.{Assures, EndsAtMomentOf, HasMoments, HasMomentsUntil, IsKept, IsKeptBy};
 ghost use Rattle.lasting.specs.Lasting.{kept_with};
@@ -10,8 +10,9 @@ ghost use Rattle.workers.specs.Moments.{GoesOnLater, IsMomentOf};
 ghost use Rattle.workers.specs.Seats.{AreAllInOrder, AreSeatsRecorded};
 
 use crate::policy::Policy;
+use devices::Failed;
 use journal::KEY_BYTES;
-use journal_file::{Appender, Journal};
+use journal_file::{Journal, Storage, Uncompacted};
 use persist::Change;
 use session::Session;
 use std::alloc::Global;
@@ -24,14 +25,14 @@ use workers::{Assured, Handed, Marked, Naming, Seat, Shared};
 /// appended are pending, and appended first the next time. By the policy it is told what outlasts a stop: it assures a
 /// session only once that does.
 #[derive(Drop)]
-pub struct Journaled<J: Naming, F: Appender + Drop> {
+pub struct Journaled<J: Naming, S: Storage + Drop> {
     policy: Policy,
     handed: Handed<J>,
     pending: Vec<Change>,
-    journal: Journal<F>,
+    journal: Journal<S>,
 }
 
-impl<J: Naming, F: Appender + Drop> Model for Journaled<J, F> {
+impl<J: Naming, S: Storage + Drop> Model for Journaled<J, S> {
     ghost use Rattle.lasting.specs.Lasting.{IsKept, Kept};
 
     ghost Value = { Kept };
@@ -55,8 +56,7 @@ impl<J: Naming, F: Appender + Drop> Model for Journaled<J, F> {
     }) };
 }
 
-impl<J: Naming, F: Appender + Drop> Journaled<J, F> {
-    ghost use Rattle.journal_file.specs.Appended.{IsFresh};
+impl<J: Naming, S: Storage + Drop> Journaled<J, S> {
     ghost use Rattle.journal_file.specs.OnDevice.{IsOf};
 
     /// A journal that begins on these words, which are the kept ones that all changes handed on so far make; and nothing
@@ -65,20 +65,21 @@ impl<J: Naming, F: Appender + Drop> Journaled<J, F> {
         alloc: Global,
         policy: Policy,
         handed: Handed<J>,
-        device: F,
+        storage: S,
         key: &[u8; KEY_BYTES],
         words: Vec<u64>,
     ) -> Result<Self, Refusal>
-        requires fresh { IsFresh (F.appended device) }
         requires words { words.items ≡ applied handed.changes J.first.broker.words.kept }
         requires moment { IsMomentOf J.first handed.last words.items }
         requires nothing { handed.assured ≡ [] }
         ensures policy { IfOk result (λ k. k.policy ≡ policy) }
         ensures handed { IfOk result (λ k. k.handed ≡ handed.changes) }
         ensures all { IfOk result (λ k. k.pending ≡ []) }
+        ensures words { IfOk result (λ k. k.journal.words ≡ words.items) }
+        ensures kept { IfOk result (λ k. k.journal.kept ≡ k.journal.size) }
         ensures going { IfOk result (λ k. k.journal.failed ≡ false) }
     {
-        let journal = Journal::begin(alloc, device, key, words)?;
+        let journal = Journal::begin(alloc, storage, key, words)?;
         Ok(Journaled {
             policy,
             handed,
@@ -88,7 +89,7 @@ impl<J: Naming, F: Appender + Drop> Journaled<J, F> {
     }
 
     /// The journal. Each beginning of its batches ends at a moment of the session, which goes on from those before.
-    pub fn journal(&self) -> &Journal<F>
+    pub fn journal(&self) -> &Journal<S>
         ensures journal { result.now ≡ self.now.journal }
         ensures moments { HasMomentsUntil J.first self.now.last self.now.journal }
     {
@@ -291,15 +292,14 @@ impl<J: Naming, F: Appender + Drop> Journaled<J, F> {
         self.keep()
     }
 
-    /// Goes on as a journal of its present words and no batch, on another device, which is to have no byte yet. What is
-    /// pending stays so. It is refused as [`Journal::compacted`] is, and then all stays.
-    pub fn compact(
-        &mut self,
-        alloc: Global,
-        device: F,
-        key: &[u8; KEY_BYTES],
-    ) -> Result<(), Refusal>
-        requires { IsFresh (F.appended device) }
+    /// A key that was just drawn.
+    pub fn draw_key(&self) -> Result<[u8; KEY_BYTES], Failed> {
+        self.journal.storage().draw_key()
+    }
+
+    /// Goes on as a journal of its present words and no batch, which takes the place of the one in use. What is pending
+    /// stays so. It is refused as [`Journal::compact`] is.
+    pub fn compact(&mut self, alloc: Global, key: &[u8; KEY_BYTES]) -> Result<(), Uncompacted>
         ensures policy { self.new.policy ≡ self.old.policy }
         ensures handed { self.new.handed ≡ self.old.handed }
         ensures last { self.new.last ≡ self.old.last }
@@ -308,12 +308,10 @@ impl<J: Naming, F: Appender + Drop> Journaled<J, F> {
         ensures journal { OnOk result (IsOf key.now self.old.journal.words [] 0 self.new.journal) }
         ensures kept { OnOk result (self.new.journal.kept ≡ self.new.journal.size) }
         ensures going { OnOk result (self.new.journal.failed ≡ false) }
-        ensures same { OnErr result (self.new ≡ self.old) }
-        ensures errors { IfErr result (λ e. (e ≡ Refusal.NoMemory) ⊎ (e ≡ Refusal.WriteFailed)) }
+        ensures same { IfErr result (λ e. e ≢ Uncompacted.Unknown → self.new ≡ self.old) }
+        ensures over { result ≡ Err Uncompacted.Unknown → self.new.journal.failed ≡ true }
     {
-        let compacted = self.journal.compacted(alloc, device, key)?;
-        self.journal = compacted;
-        Ok(())
+        self.journal.compact(alloc, key)
     }
 
     /// Takes the session back, as [`Shared::close`] does, with the changes that were not handed on yet, and nothing
@@ -325,7 +323,7 @@ impl<J: Naming, F: Appender + Drop> Journaled<J, F> {
         alloc: Global,
         shared: Shared<J>,
         seats: Vec<Seat<J>>,
-    ) -> (Session, Journal<F>, Result<(), Refusal>)
+    ) -> (Session, Journal<S>, Result<(), Refusal>)
         requires { AreAllInOrder (λ seat. seat.client) J.clients seats.items }
         ensures lists { AreSeatsRecorded (λ seat. seat.list.items) J.first seats.items result.0 }
         ensures goes_on { SessionGoesOn J.first result.0 }
@@ -362,8 +360,8 @@ impl<J: Naming, F: Appender + Drop> Journaled<J, F> {
         policy: Policy,
         handed: Handed<J>,
         rest: Vec<Change>,
-        journal: Journal<F>,
-    ) -> (Journal<F>, Result<(), Refusal>)
+        journal: Journal<S>,
+    ) -> (Journal<S>, Result<(), Refusal>)
         requires { IsKept J.first (kept_with policy handed rest.items journal) }
         ensures words { OnOk result.1 (result.0.words ≡ applied handed.changes J.first.broker.words.kept) }
         ensures kept { OnOk result.1 (result.0.kept ≡ result.0.size) }

@@ -1,6 +1,6 @@
-//! What a shared session leaves on a device: the changes of kept words that it hands on are appended to a journal, a batch
+//! What a shared session leaves in a storage: the changes of kept words that it hands on are appended to a journal, a batch
 //! each time. So whatever a stop of the machine leaves of the journal is read as the kept words of a moment. A journal is
-//! kept by a policy, and goes on on another device where the one in use fails or has grown long.
+//! kept by a policy, and another one of its words takes its place where the storage fails or it has grown long.
 #![tactic(auto)]
 
 mod beginning;
@@ -8,11 +8,15 @@ mod journaled;
 mod laws;
 mod policy;
 mod settler;
+mod settling;
 mod shared_journal;
 
 pub use beginning::first_words;
 pub use journaled::Journaled;
-pub use laws::{firsts_are_moments, stops_leave_a_moment, stops_leave_what_was_assured};
+pub use laws::{
+    firsts_are_moments, settled_stands_there, stops_leave_a_moment, stops_leave_what_was_assured,
+};
 pub use policy::Policy;
 pub use settler::Settler;
+pub use settling::Settling;
 pub use shared_journal::SharedJournal;

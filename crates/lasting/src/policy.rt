@@ -8,6 +8,6 @@ pub enum Policy {
     Always,
     /// About once a second, beside the answers.
     EachSecond,
-    /// When the device comes to it.
+    /// When the storage comes to it.
     Never,
 }

@@ -12,7 +12,7 @@ ghost use Rattle.workers.specs.Seats.{AreAllInOrder, AreSeatsRecorded};
 use crate::journaled::Journaled;
 use crate::policy::Policy;
 use devices::Failed;
-use journal_file::{Appender, Journal, Storage};
+use journal_file::{Journal, Storage, Uncompacted};
 use session::Session;
 use std::alloc::Global;
 use std::marker::Model;
@@ -26,17 +26,17 @@ pub const LEAST_FRAMES: u64 = 0x100_0000;
 /// How many times as long as the journal was when it began its frames are then.
 pub const FRAMES_BY_HEAD: u64 = 4;
 
-/// The journal of a shared session, which is kept by a policy, and goes on by itself on another device of its storage
-/// where the one in use fails or has grown long. Where that fails too, it has failed for good.
+/// The journal of a shared session, which is kept by a policy. Where its storage fails or it has grown long, it goes on by
+/// itself as another journal of its words, which takes its place. Where that fails too, it has failed for good.
 #[derive(Drop)]
-pub struct Settler<J: Naming, F: Appender + Drop> {
-    journaled: Journaled<J, F>,
+pub struct Settler<J: Naming, S: Storage + Drop> {
+    journaled: Journaled<J, S>,
     /// The journal is compacted once it has more bytes than these.
     enough: u64,
     failed: bool,
 }
 
-impl<J: Naming, F: Appender + Drop> Model for Settler<J, F> {
+impl<J: Naming, S: Storage + Drop> Model for Settler<J, S> {
     ghost use Rattle.lasting.specs.Settling.{Settled};
 
     ghost Value = { Settled };
@@ -54,15 +54,15 @@ fn may_pass(refusal: Refusal) -> bool {
     matches!(refusal, Refusal::NoMemory)
 }
 
-impl<J: Naming, F: Appender + Drop> Settler<J, F> {
-    /// The journal of a session that nobody has called yet: it begins on these words, on a fresh device of the storage,
-    /// which takes the place of the one in use. It is refused where the storage or the device fails (WriteFailed), for
-    /// want of memory (NoMemory), and as [`Journal::begin`] is.
-    pub fn begin<S: Storage<F>>(
+impl<J: Naming, S: Storage + Drop> Settler<J, S> {
+    /// The journal of a session that nobody has called yet: it begins on these words, and takes the place of what stands
+    /// in the storage. It is refused where the storage fails (WriteFailed), for want of memory (NoMemory), and as
+    /// [`Journal::begin`] is.
+    pub fn begin(
         alloc: Global,
         handed: Handed<J>,
         words: Vec<u64>,
-        storage: &S,
+        storage: S,
         policy: Policy,
     ) -> Result<Self, Refusal>
         requires words { words.items ≡ applied handed.changes J.first.broker.words.kept }
@@ -71,16 +71,13 @@ impl<J: Naming, F: Appender + Drop> Settler<J, F> {
         ensures handed { IfOk result (λ s. s.kept.handed ≡ handed.changes) }
         ensures all { IfOk result (λ s. s.kept.pending ≡ []) }
         ensures policy { IfOk result (λ s. s.policy ≡ policy) }
+        ensures settled { IfOk result (HasSettled J.first) }
         ensures going { IfOk result (λ s. s.failed ≡ false) }
     {
-        let Ok(made) = storage.fresh() else {
+        let Ok(key) = storage.draw_key() else {
             return Err(Refusal::WriteFailed);
         };
-        let key = made.1;
-        let journaled = Journaled::begin(alloc, policy, handed, made.0, &key, words)?;
-        if storage.replace().is_err() {
-            return Err(Refusal::WriteFailed);
-        }
+        let journaled = Journaled::begin(alloc, policy, handed, storage, &key, words)?;
         let enough = enough_behind(journaled.journal().size());
         Ok(Settler {
             journaled,
@@ -103,9 +100,9 @@ impl<J: Naming, F: Appender + Drop> Settler<J, F> {
         self.failed
     }
 
-    /// The journal goes on as its present words on a fresh device, which takes the place of the one in use. Where it
-    /// cannot begin there, the one in use goes on; where it is not known which one has the place, it has failed.
-    fn compact<S: Storage<F>>(&mut self, alloc: Global, storage: &S) -> Result<(), Refusal>
+    /// The journal goes on as its present words, in place of the one in use. Where it cannot begin so, the one in use goes
+    /// on; where it is not known which one has the place, it has failed.
+    fn compact(&mut self, alloc: Global) -> Result<(), Refusal>
         ensures handed { self.new.kept.handed ≡ self.old.kept.handed }
         ensures last { self.new.kept.last ≡ self.old.kept.last }
         ensures pending { self.new.kept.pending ≡ self.old.kept.pending }
@@ -116,20 +113,24 @@ impl<J: Naming, F: Appender + Drop> Settler<J, F> {
         ensures failed { OnOk result (self.new.failed ≡ self.old.failed) }
         ensures same { OnErr result (self.new.failed ≡ false → self.new.kept ≡ self.old.kept) }
     {
-        let Ok(made) = storage.fresh() else {
+        let Ok(key) = self.journaled.draw_key() else {
             return Err(Refusal::WriteFailed);
         };
-        let key = made.1;
-        self.journaled.compact(alloc, made.0, &key)?;
-        if storage.replace().is_err() {
-            self.failed = true;
-            return Err(Refusal::WriteFailed);
+        match self.journaled.compact(alloc, &key) {
+            Ok(()) => {
+                self.enough = enough_behind(self.journaled.journal().size());
+                Ok(())
+            }
+            Err(Uncompacted::NoMemory) => Err(Refusal::NoMemory),
+            Err(Uncompacted::WriteFailed) => Err(Refusal::WriteFailed),
+            Err(Uncompacted::Unknown) => {
+                self.failed = true;
+                Err(Refusal::WriteFailed)
+            }
         }
-        self.enough = enough_behind(self.journaled.journal().size());
-        Ok(())
     }
 
-    /// Keeps what was appended, as the policy says, on a device that has not failed.
+    /// Keeps what was appended, as the policy says, in a storage that has not failed.
     fn keep_by_policy(&mut self) -> Result<(), Refusal>
         ensures handed { self.new.kept.handed ≡ self.old.kept.handed }
         ensures last { self.new.kept.last ≡ self.old.kept.last }
@@ -149,14 +150,9 @@ impl<J: Naming, F: Appender + Drop> Settler<J, F> {
         }
     }
 
-    /// Where a refusal came, the journal goes on on a fresh device. It fails for want of memory, which may pass, and
-    /// where that device fails too, or has no place: then for good.
-    fn go_on_anew<S: Storage<F>>(
-        &mut self,
-        alloc: Global,
-        storage: &S,
-        refusal: Refusal,
-    ) -> Result<(), Failed>
+    /// Where a refusal came, the journal goes on as another one in its place. It fails for want of memory, which may pass,
+    /// and where that one fails too, or may not have the place: then for good.
+    fn go_on_anew(&mut self, alloc: Global, refusal: Refusal) -> Result<(), Failed>
         ensures handed { self.new.kept.handed ≡ self.old.kept.handed }
         ensures pending { self.new.kept.pending ≡ self.old.kept.pending }
         ensures words { self.new.kept.journal.words ≡ self.old.kept.journal.words }
@@ -167,7 +163,7 @@ impl<J: Naming, F: Appender + Drop> Settler<J, F> {
         if may_pass(refusal) {
             return Err(Failed);
         }
-        if let Err(refusal) = self.compact(alloc, storage) {
+        if let Err(refusal) = self.compact(alloc) {
             self.failed = self.failed || !may_pass(refusal);
             return Err(Failed);
         }
@@ -176,7 +172,7 @@ impl<J: Naming, F: Appender + Drop> Settler<J, F> {
 
     /// Compacts the journal where it has grown long. Where that is refused, the one in use goes on, and it is tried
     /// again after as much growth; it fails where it is not known which one has the place.
-    fn compact_if_long<S: Storage<F>>(&mut self, alloc: Global, storage: &S) -> Result<(), Failed>
+    fn compact_if_long(&mut self, alloc: Global) -> Result<(), Failed>
         requires going { self.old.failed ≡ false }
         requires settled { HasSettled J.first self.old }
         ensures last { self.new.kept.last ≡ self.old.kept.last }
@@ -188,7 +184,7 @@ impl<J: Naming, F: Appender + Drop> Settler<J, F> {
         if size <= self.enough {
             return Ok(());
         }
-        if self.compact(alloc, storage).is_err() {
+        if self.compact(alloc).is_err() {
             self.enough = enough_behind(size);
         }
         if self.failed { Err(Failed) } else { Ok(()) }
@@ -227,7 +223,7 @@ impl<J: Naming, F: Appender + Drop> Settler<J, F> {
         (settler, marked, kept)
     }
 
-    /// The same once more, on a fresh device. What it is refused there is for good, but for want of memory.
+    /// The same once more, behind a journal that just began. What it is refused then is for good, but for want of memory.
     fn appended_anew<R: Wait>(
         self,
         rt: &R,
@@ -250,15 +246,14 @@ impl<J: Naming, F: Appender + Drop> Settler<J, F> {
 
     /// Hands on all changes that the session noted since, appends them, and keeps them where the policy is to keep
     /// always. Nothing is handed on where all that was marked is. At Ok the journal has every change that was handed on,
-    /// and the session of the last hand-on goes on from the marked one. Where its device fails, it goes on on a fresh
-    /// one of the storage, once. It fails for want of memory, which may pass, and where that other device fails too, or
-    /// has no place: then for good. What was handed on and could not be appended is appended first the next time.
-    pub fn settle<R: Wait, S: Storage<F>>(
+    /// and the session of the last hand-on goes on from the marked one. Where its storage fails, it goes on as another
+    /// journal in its place, once. It fails for want of memory, which may pass, and where that one fails too, or may not
+    /// have the place: then for good. What was handed on and could not be appended is appended first the next time.
+    pub fn settle<R: Wait>(
         self,
         rt: &R,
         alloc: Global,
         shared: &Shared<J>,
-        storage: &S,
         marked: Marked<J>,
     ) -> (Self, Marked<J>, Result<(), Failed>)
         ensures settled { OnOk result.2 (HasSettled J.first result.0) }
@@ -272,12 +267,12 @@ impl<J: Naming, F: Appender + Drop> Settler<J, F> {
         }
         let (mut settler, marked, appended) = self.appended(rt, alloc, shared, marked);
         if let Err(refusal) = appended {
-            if settler.go_on_anew(alloc, storage, refusal).is_err() {
+            if settler.go_on_anew(alloc, refusal).is_err() {
                 return (settler, marked, Err(Failed));
             }
             return settler.appended_anew(rt, alloc, shared, marked);
         }
-        let settled = settler.compact_if_long(alloc, storage);
+        let settled = settler.compact_if_long(alloc);
         (settler, marked, settled)
     }
 
@@ -306,12 +301,11 @@ impl<J: Naming, F: Appender + Drop> Settler<J, F> {
 
     /// Settles as [`Settler::settle`] does. At Ok the session of the last hand-on, which the journal ends at, goes on from
     /// the marked one, and the token says for good that the journal assures that one ([`Settler::hears`]).
-    pub fn settle_up_to<R: Wait, S: Storage<F>>(
+    pub fn settle_up_to<R: Wait>(
         self,
         rt: &R,
         alloc: Global,
         shared: &Shared<J>,
-        storage: &S,
         marked: Marked<J>,
     ) -> (Self, Result<Assured<J>, Failed>)
         ensures settled { OnOk result.1 (HasSettled J.first result.0) }
@@ -320,7 +314,7 @@ impl<J: Naming, F: Appender + Drop> Settler<J, F> {
         ensures policy { result.0.policy ≡ self.policy }
         ensures over { self.failed ≡ true → (result.0 ≡ self) × (is_err result.1 ≡ true) }
     {
-        let (settler, marked, settled) = self.settle(rt, alloc, shared, storage, marked);
+        let (settler, marked, settled) = self.settle(rt, alloc, shared, marked);
         if settled.is_err() {
             return (settler, Err(Failed));
         }
@@ -328,8 +322,8 @@ impl<J: Naming, F: Appender + Drop> Settler<J, F> {
         (settler, Ok(assured))
     }
 
-    /// Hears a token of this journal: it assures the token's session. Both come back as they were. It is said of the device
-    /// in use: where the journal has failed for good, that may not be the one in its place.
+    /// Hears a token of this journal: it assures the token's session. Both come back as they were. It is said of the journal
+    /// that stands at the place of the storage.
     pub fn hears(self, assured: Assured<J>) -> (Self, Assured<J>)
         ensures sure { Assures J.first self.policy assured self.kept.journal }
         ensures settler { result.0 ≡ self }
@@ -349,9 +343,9 @@ impl<J: Naming, F: Appender + Drop> Settler<J, F> {
         (settler, assured)
     }
 
-    /// Keeps all that was appended, whatever the policy is. Where the device fails, it goes on as
+    /// Keeps all that was appended, whatever the policy is. Where the storage fails, it goes on as
     /// [`Settler::settle`] does, and fails as that does.
-    pub fn keep_up<S: Storage<F>>(&mut self, alloc: Global, storage: &S) -> Result<(), Failed>
+    pub fn keep_up(&mut self, alloc: Global) -> Result<(), Failed>
         ensures handed { self.new.kept.handed ≡ self.old.kept.handed }
         ensures pending { self.new.kept.pending ≡ self.old.kept.pending }
         ensures words { self.new.kept.journal.words ≡ self.old.kept.journal.words }
@@ -364,7 +358,7 @@ impl<J: Naming, F: Appender + Drop> Settler<J, F> {
         }
         match self.journaled.keep_all() {
             Ok(()) => Ok(()),
-            Err(refusal) => self.go_on_anew(alloc, storage, refusal),
+            Err(refusal) => self.go_on_anew(alloc, refusal),
         }
     }
 
@@ -375,7 +369,7 @@ impl<J: Naming, F: Appender + Drop> Settler<J, F> {
         alloc: Global,
         shared: Shared<J>,
         seats: Vec<Seat<J>>,
-    ) -> (Session, Journal<F>, Result<(), Failed>)
+    ) -> (Session, Journal<S>, Result<(), Failed>)
         requires { AreAllInOrder (λ seat. seat.client) J.clients seats.items }
         ensures lists { AreSeatsRecorded (λ seat. seat.list.items) J.first seats.items result.0 }
         ensures goes_on { SessionGoesOn J.first result.0 }

@@ -1,11 +1,13 @@
 //! The journal of a shared session, for the threads that share it.
 
-ghost use Rattle.std.specs.Prelude.{◌≡◌, IfOk, IsSome};
+ghost use Rattle.std.specs.Prelude.{◌≡◌, IfOk, IsSome, OnOk};
+ghost use Rattle.std.specs.Option.{ForSome};
 
 use crate::policy::Policy;
 use crate::settler::Settler;
+use crate::settling::Settling;
 use devices::Failed;
-use journal_file::{Appender, Storage};
+use journal_file::Storage;
 use std::alloc::Global;
 use std::sync::atomic::{AtomicBool, Ordering};
 use std::sync::{Mutex, MutexGuard, Wait};
@@ -20,16 +22,22 @@ const NAP_MILLIS: u64 = 50;
 /// How often it rests between two times.
 const NAPS: u32 = 20;
 
-/// The place of a settler, who is there but while it settles.
+/// The place of a settler, who is there but while it settles, and keeps the journal by the policy of the place.
 #[derive(Drop)]
-struct Place<J: Naming, F: Appender + Drop> {
-    settler: Option<Settler<J, F>>,
+struct Place<J: Naming + Settling, S: Storage + Drop> {
+    settler: Option<Settler<J, S>>,
     ghost there: { IsSome settler },
+    ghost by: { ForSome settler (λ s. s.policy ≡ J.policy) },
 }
 
-impl<J: Naming, F: Appender + Drop> Place<J, F> {
+impl<J: Naming + Settling, S: Storage + Drop> Place<J, S> {
+    ghost use Rattle.lasting.specs.Lasting.{IsKeptBy};
+    ghost use Rattle.lasting.specs.Settling.{HasSettled};
+
     /// Whoever is there.
-    fn into_settler(self) -> Settler<J, F> {
+    fn into_settler(self) -> Settler<J, S>
+        ensures { result.policy ≡ J.policy }
+    {
         let Place { settler } = self;
         match settler {
             Some(settler) => settler,
@@ -45,31 +53,33 @@ impl<J: Naming, F: Appender + Drop> Place<J, F> {
         }
     }
 
-    /// It settles up to a mark.
-    fn settle_up_to<R: Wait, S: Storage<F>>(
+    /// It settles up to a mark: at Ok all that was handed on is appended, and kept as the policy of the place says.
+    fn settle_up_to<R: Wait>(
         &mut self,
         rt: &R,
         alloc: Global,
         shared: &Shared<J>,
-        storage: &S,
         marked: Marked<J>,
     ) -> Result<Assured<J>, Failed>
-        ensures { IfOk result (λ assured. assured ≡ marked) }
+        ensures assured { IfOk result (λ assured. assured ≡ marked) }
+        ensures settled { OnOk result (ForSome self.new.settler (λ s. HasSettled J.first s)) }
     {
         let Some(settler) = self.settler.take() else {
             unreachable!()
         };
-        let (settler, settled) = settler.settle_up_to(rt, alloc, shared, storage, marked);
+        let (settler, settled) = settler.settle_up_to(rt, alloc, shared, marked);
         self.settler = Some(settler);
         settled
     }
 
-    /// It keeps all that was appended.
-    fn keep_up<S: Storage<F>>(&mut self, alloc: Global, storage: &S) -> Result<(), Failed> {
+    /// It keeps all that was appended, whatever the policy is.
+    fn keep_up(&mut self, alloc: Global) -> Result<(), Failed>
+        ensures { OnOk result (ForSome self.new.settler (λ s. IsKeptBy Policy.Always s.kept.journal)) }
+    {
         let Some(mut settler) = self.settler.take() else {
             unreachable!()
         };
-        let kept = settler.keep_up(alloc, storage);
+        let kept = settler.keep_up(alloc);
         self.settler = Some(settler);
         kept
     }
@@ -78,19 +88,20 @@ impl<J: Naming, F: Appender + Drop> Place<J, F> {
 /// The journal of a shared session, for the threads that share it. Who settles appends what all of them have noted: the
 /// others, who wait for him, find it done. Nobody appends or keeps under the session's own lock.
 #[derive(Drop)]
-pub struct SharedJournal<'a, J: Naming, F: Appender + Drop, S: Storage<F>> {
+pub struct SharedJournal<'a, J: Naming + Settling, S: Storage + Drop> {
     alloc: Global,
     shared: &'a Shared<J>,
-    storage: &'a S,
     policy: Policy,
     failed: AtomicBool,
-    /// This lock is taken before the session's. It is held while the device works.
-    place: Mutex<Place<J, F>>,
+    /// This lock is taken before the session's. It is held while the storage works.
+    place: Mutex<Place<J, S>>,
+    ghost by: { policy ≡ J.policy },
 }
 
-impl<'a, J: Naming, F: Appender + Drop, S: Storage<F>> SharedJournal<'a, J, F, S> {
+impl<'a, J: Naming + Settling, S: Storage + Drop> SharedJournal<'a, J, S> {
     /// This settler's journal, for the session.
-    pub fn new(alloc: Global, shared: &'a Shared<J>, storage: &'a S, settler: Settler<J, F>) -> Self
+    pub fn new(alloc: Global, shared: &'a Shared<J>, settler: Settler<J, S>) -> Self
+        requires { settler.policy ≡ J.policy }
         ensures shared { result.shared.now ≡ shared.now }
         ensures policy { result.policy ≡ settler.policy }
     {
@@ -102,7 +113,6 @@ impl<'a, J: Naming, F: Appender + Drop, S: Storage<F>> SharedJournal<'a, J, F, S
         SharedJournal {
             alloc,
             shared,
-            storage,
             policy,
             failed,
             place,
@@ -118,19 +128,22 @@ impl<'a, J: Naming, F: Appender + Drop, S: Storage<F>> SharedJournal<'a, J, F, S
 
     /// The settler's policy.
     pub fn policy(&self) -> Policy
-        ensures { result ≡ self.now.policy }
+        ensures policy { result ≡ self.now.policy }
+        ensures name { result ≡ J.policy }
     {
         self.policy
     }
 
-    /// The settler, once nobody shares it. That its policy is the one that was given no clause says.
-    pub fn into_settler(self) -> Settler<J, F> {
+    /// The settler, once nobody shares it. Its policy is the one that was given.
+    pub fn into_settler(self) -> Settler<J, S>
+        ensures { result.policy ≡ J.policy }
+    {
         self.place.into_inner().into_settler()
     }
 
     /// The place, once it is free. Where nothing is synced under its lock, that is held for one write: then it is tried
     /// again before a thread sleeps for it.
-    fn locked<R: Wait>(&self, rt: &R) -> MutexGuard<'_, Place<J, F>> {
+    fn locked<R: Wait>(&self, rt: &R) -> MutexGuard<'_, Place<J, S>> {
         match self.policy {
             Policy::Always => self.place.lock(rt),
             Policy::EachSecond | Policy::Never => lock(rt, &self.place),
@@ -143,7 +156,7 @@ impl<'a, J: Naming, F: Appender + Drop, S: Storage<F>> SharedJournal<'a, J, F, S
     }
 
     /// Says to those who do not have the lock whether the journal has failed for good.
-    fn note(&self, place: &Place<J, F>) {
+    fn note(&self, place: &Place<J, S>) {
         if place.has_failed() {
             self.failed.store(true, Ordering::SeqCst);
         }
@@ -159,7 +172,7 @@ impl<'a, J: Naming, F: Appender + Drop, S: Storage<F>> SharedJournal<'a, J, F, S
             return Err(Failed);
         }
         let mut place = self.locked(rt);
-        let settled = place.settle_up_to(rt, self.alloc, self.shared, self.storage, marked);
+        let settled = place.settle_up_to(rt, self.alloc, self.shared, marked);
         self.note(&place);
         settled
     }
@@ -167,7 +180,7 @@ impl<'a, J: Naming, F: Appender + Drop, S: Storage<F>> SharedJournal<'a, J, F, S
     /// Keeps all that was appended, as [`Settler::keep_up`] does.
     pub fn keep_up<R: Wait>(&self, rt: &R) -> Result<(), Failed> {
         let mut place = self.locked(rt);
-        let kept = place.keep_up(self.alloc, self.storage);
+        let kept = place.keep_up(self.alloc);
         self.note(&place);
         kept
     }

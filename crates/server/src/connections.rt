@@ -7,8 +7,8 @@ use crossbeam_channel::Receiver;
 use desk::BrokerDesk;
 use devices::{CountedReader, CountedWriter, MAX_FAILURES};
 use engine::{Desk, serve};
-use journal_file::{Appender, Storage};
-use lasting::SharedJournal;
+use journal_file::Storage;
+use lasting::{Settling, SharedJournal};
 use log::{Log, warn};
 use seating::Seating;
 use serving::{JsonLines, LastingDesk, StoppingDesk};
@@ -97,7 +97,7 @@ impl<J: Naming> Desks<J> for InMemory {
     }
 }
 
-impl<J: Naming, F: Appender + Drop, S: Storage<F>> Desks<J> for SharedJournal<'_, J, F, S> {
+impl<J: Naming + Settling, S: Storage + Drop> Desks<J> for SharedJournal<'_, J, S> {
     fn serve<R: Wait + Log>(
         &self,
         rt: &R,

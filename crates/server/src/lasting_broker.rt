@@ -7,7 +7,7 @@ ghost use Rattle.workers.specs.Seats.{AreAllInOrder};
 ghost use Rattle.serving.specs.Journaled.{IsLeftAfter};
 
 use crate::ending::seated;
-use journal_file::{Appender, Storage};
+use journal_file::Storage;
 use lasting::Settler;
 use seating::Seating;
 use serving::{Journaling, Left, Noted, Unserved};
@@ -17,24 +17,25 @@ use workers::{Naming, Seat, Shared};
 
 /// A broker that connections share, their seats, and who settles what is done in its journal.
 #[derive(Drop)]
-pub(crate) struct LastingBroker<J: Naming, F: Appender + Drop> {
+pub(crate) struct LastingBroker<J: Naming, S: Storage + Drop> {
     pub(crate) shared: Shared<J>,
     pub(crate) seats: Seating<J>,
-    pub(crate) settler: Settler<J, F>,
+    pub(crate) settler: Settler<J, S>,
 }
 
-impl<J: Naming, F: Appender + Drop> LastingBroker<J, F> {
+impl<J: Naming, S: Storage + Drop> LastingBroker<J, S> {
     /// It, on a fresh device of the storage. It is refused for want of memory (NoMemory), and where the journal cannot
     /// begin (WriteFailed).
-    pub(crate) fn begin<S: Storage<F>>(
+    pub(crate) fn begin(
         alloc: Global,
         noted: Noted,
         renew: bool,
-        journaling: &Journaling<'_, S>,
+        journaling: Journaling<S>,
     ) -> Result<Self, Refusal>
         requires name { IsNameOf J.roll J.clients J.first noted.noting }
         requires words { noted.words.items ≡ J.first.broker.words.kept }
         requires moment { IsFirstMoment J.first }
+        ensures { IfOk result (λ broker. broker.settler.policy ≡ journaling.policy) }
     {
         let Noted { noting, words } = noted;
         let (shared, seats, operator, handed) = match noting.named::<J>(alloc) {
@@ -54,7 +55,7 @@ impl<J: Naming, F: Appender + Drop> LastingBroker<J, F> {
 
     /// What is left of it once all connections have ended: the image, and the journal with its last batch, which is kept.
     /// It is refused as [`crate::ending::image_left`] is; and NotKept where the journal failed.
-    pub(crate) fn end(self, alloc: Global) -> Result<Left<F>, Unserved>
+    pub(crate) fn end(self, alloc: Global) -> Result<Left<S>, Unserved>
         ensures { IfOk result (λ left. IsLeftAfter J.first left.image.items left.journal) }
     {
         let LastingBroker {
@@ -70,12 +71,12 @@ impl<J: Naming, F: Appender + Drop> LastingBroker<J, F> {
 }
 
 /// What is left once these seats are taken back.
-fn left_of<J: Naming, F: Appender + Drop>(
+fn left_of<J: Naming, S: Storage + Drop>(
     alloc: Global,
     shared: Shared<J>,
     seats: Vec<Seat<J>>,
-    settler: Settler<J, F>,
-) -> Result<Left<F>, Unserved>
+    settler: Settler<J, S>,
+) -> Result<Left<S>, Unserved>
     requires { AreAllInOrder (λ seat. seat.client) J.clients seats.items }
     ensures { IfOk result (λ left. IsLeftAfter J.first left.image.items left.journal) }
 {

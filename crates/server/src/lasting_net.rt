@@ -10,8 +10,8 @@ use crate::connections::{Desks, Sharing};
 use crate::lasting_broker::LastingBroker;
 use crate::listening::{Service, work};
 use crate::stopping::Stopping;
-use journal_file::{Appender, Storage};
-use lasting::{Policy, Settler, SharedJournal};
+use journal_file::Storage;
+use lasting::{Policy, Settler, Settling, SharedJournal};
 use log::Log;
 use named::Broker;
 use seating::Seating;
@@ -38,7 +38,7 @@ trait KeptBeside<J: Naming> {
     fn keep_until<R: Wait + Clock>(&self, rt: &R, ended: &AtomicBool);
 }
 
-impl<J: Naming, F: Appender + Drop, S: Storage<F>> KeptBeside<J> for SharedJournal<'_, J, F, S> {
+impl<J: Naming + Settling, S: Storage + Drop> KeptBeside<J> for SharedJournal<'_, J, S> {
     fn session(&self) -> &Shared<J> {
         self.shared()
     }
@@ -117,18 +117,19 @@ fn work_beside<
 
 /// Serves connections to the end, settles and keeps what no reply told of, and answers who settles.
 fn serve_to_end<
-    J: Naming + Send + Sync,
-    F: Appender + Drop + Send,
-    S: Storage<F> + Sync,
+    J: Naming + Settling + Send + Sync,
+    S: Storage + Drop + Send,
     R: Threads + Wait + Net + Clock + Log + Sync,
 >(
     rt: &R,
     alloc: Global,
     seats: &Seating<J>,
-    journal: SharedJournal<'_, J, F, S>,
+    journal: SharedJournal<'_, J, S>,
     workers: u32,
     listener: &TcpListener,
-) -> Result<Settler<J, F>, AllocError> {
+) -> Result<Settler<J, S>, AllocError>
+    ensures { IfOk result (λ settler. settler.policy ≡ J.policy) }
+{
     work_beside(rt, alloc, seats, &journal, workers, listener)?;
     // Where that fails for good, nothing is left.
     let _ = journal.settle_and_keep(rt);
@@ -137,29 +138,29 @@ fn serve_to_end<
 
 /// Serves, once the broker has its name.
 fn served<
-    J: Naming + Send + Sync,
-    F: Appender + Drop + Send,
-    S: Storage<F> + Sync,
+    J: Naming + Settling + Send + Sync,
+    S: Storage + Drop + Send,
     R: Threads + Wait + Net + Clock + Log + Sync,
 >(
     rt: &R,
     alloc: Global,
     noted: Noted,
     service: Service,
-    journaling: Journaling<'_, S>,
+    journaling: Journaling<S>,
     listener: &TcpListener,
-) -> Result<Left<F>, Unserved>
+) -> Result<Left<S>, Unserved>
     requires name { IsNameOf J.roll J.clients J.first noted.noting }
     requires words { noted.words.items ≡ J.first.broker.words.kept }
     requires moment { IsFirstMoment J.first }
+    requires policy { journaling.policy ≡ J.policy }
     ensures { IfOk result (λ left. IsLeftAfter J.first left.image.items left.journal) }
 {
     let LastingBroker {
         shared,
         seats,
         settler,
-    } = LastingBroker::<J, F>::begin(alloc, noted, service.renew, &journaling)?;
-    let journal = SharedJournal::new(alloc, &shared, journaling.storage, settler);
+    } = LastingBroker::<J, S>::begin(alloc, noted, service.renew, journaling)?;
+    let journal = SharedJournal::new(alloc, &shared, settler);
     let workers = service.workers.max(1);
     match serve_to_end(rt, alloc, &seats, journal, workers, listener) {
         Ok(settler) => LastingBroker {
@@ -177,21 +178,17 @@ fn served<
 /// policy is to keep always. Where the device fails, the journal goes on on a fresh one, and where that fails too, the
 /// connections end without their replies, no more are taken, and it answers NotKept. It is refused as `net` is, and
 /// where the journal cannot begin (WriteFailed).
-pub fn net_lasting<
-    F: Appender + Drop + Send,
-    S: Storage<F> + Sync,
-    R: Threads + Wait + Net + Clock + Log + Sync,
->(
+pub fn net_lasting<S: Storage + Drop + Send, R: Threads + Wait + Net + Clock + Log + Sync>(
     rt: &R,
     alloc: Global,
     broker: Broker,
     service: Service,
-    journaling: Journaling<'_, S>,
+    journaling: Journaling<S>,
     listener: &TcpListener,
-) -> Result<Left<F>, Unserved>
+) -> Result<Left<S>, Unserved>
     requires { IsUncalled broker }
     ensures { IfOk result (λ left. IsLeftBy broker left.image.items left.journal) }
 {
     let noted = begin_noting(alloc, broker)?;
-    served::<Brand, F, S, R>(rt, alloc, noted, service, journaling, listener)
+    served::<Brand, S, R>(rt, alloc, noted, service, journaling, listener)
 }

@@ -9,8 +9,8 @@ ghost use Rattle.serving.specs.Journaled.{IsLeftAfter, IsLeftBy};
 use crate::lasting_broker::LastingBroker;
 use devices::{MAX_FAILURES, Reader, Writer};
 use engine::serve;
-use journal_file::{Appender, Storage};
-use lasting::{Policy, Settler, SharedJournal};
+use journal_file::Storage;
+use lasting::{Policy, Settler, Settling, SharedJournal};
 use named::Broker;
 use seating::Seating;
 use serving::{Journaling, JsonLines, LastingDesk, Left, Noted, Unserved, begin_noting};
@@ -24,11 +24,11 @@ use words::Refusal;
 use workers::Naming;
 
 /// Serves the requests of the reader to the writer, by a desk that settles them in the journal.
-fn serve_settling<J: Naming, F: Appender + Drop, S: Storage<F>, T: Wait, R: Reader, W: Writer>(
+fn serve_settling<J: Naming + Settling, S: Storage + Drop, T: Wait, R: Reader, W: Writer>(
     rt: &T,
     alloc: Global,
     seats: &Seating<J>,
-    journal: &SharedJournal<'_, J, F, S>,
+    journal: &SharedJournal<'_, J, S>,
     reader: &mut R,
     writer: &mut W,
 ) -> Result<(), Unserved>
@@ -44,9 +44,8 @@ fn serve_settling<J: Naming, F: Appender + Drop, S: Storage<F>, T: Wait, R: Read
 
 /// The same, and beside it another thread keeps the journal, where it is to be kept each second.
 fn serve_beside<
-    J: Naming + Send + Sync,
-    F: Appender + Drop + Send,
-    S: Storage<F> + Sync,
+    J: Naming + Settling + Send + Sync,
+    S: Storage + Drop + Send,
     T: Threads + Wait + Clock + Sync,
     R: Reader,
     W: Writer,
@@ -54,7 +53,7 @@ fn serve_beside<
     rt: &T,
     alloc: Global,
     seats: &Seating<J>,
-    journal: &SharedJournal<'_, J, F, S>,
+    journal: &SharedJournal<'_, J, S>,
     reader: &mut R,
     writer: &mut W,
 ) -> Result<(), Unserved>
@@ -79,9 +78,8 @@ fn serve_beside<
 
 /// Serves to the end, settles and keeps what no reply told of, and answers who settles, and whether all was served.
 fn serve_to_end<
-    J: Naming + Send + Sync,
-    F: Appender + Drop + Send,
-    S: Storage<F> + Sync,
+    J: Naming + Settling + Send + Sync,
+    S: Storage + Drop + Send,
     T: Threads + Wait + Clock + Sync,
     R: Reader,
     W: Writer,
@@ -89,12 +87,13 @@ fn serve_to_end<
     rt: &T,
     alloc: Global,
     seats: &Seating<J>,
-    journal: SharedJournal<'_, J, F, S>,
+    journal: SharedJournal<'_, J, S>,
     reader: &mut R,
     writer: &mut W,
-) -> (Settler<J, F>, Result<(), Unserved>)
+) -> (Settler<J, S>, Result<(), Unserved>)
     requires reader { R.failures reader.old < MAX_FAILURES }
     requires writer { W.failures writer.old < MAX_FAILURES }
+    ensures { result.0.policy ≡ J.policy }
 {
     let served = serve_beside(rt, alloc, seats, &journal, reader, writer);
     // Where that fails for good, nothing is left.
@@ -104,9 +103,8 @@ fn serve_to_end<
 
 /// Serves, once the broker has its name.
 fn served<
-    J: Naming + Send + Sync,
-    F: Appender + Drop + Send,
-    S: Storage<F> + Sync,
+    J: Naming + Settling + Send + Sync,
+    S: Storage + Drop + Send,
     T: Threads + Wait + Clock + Sync,
     R: Reader,
     W: Writer,
@@ -114,13 +112,14 @@ fn served<
     rt: &T,
     alloc: Global,
     noted: Noted,
-    journaling: Journaling<'_, S>,
+    journaling: Journaling<S>,
     reader: &mut R,
     writer: &mut W,
-) -> Result<Left<F>, Unserved>
+) -> Result<Left<S>, Unserved>
     requires name { IsNameOf J.roll J.clients J.first noted.noting }
     requires words { noted.words.items ≡ J.first.broker.words.kept }
     requires moment { IsFirstMoment J.first }
+    requires policy { journaling.policy ≡ J.policy }
     requires reader { R.failures reader.old < MAX_FAILURES }
     requires writer { W.failures writer.old < MAX_FAILURES }
     ensures { IfOk result (λ left. IsLeftAfter J.first left.image.items left.journal) }
@@ -129,8 +128,8 @@ fn served<
         shared,
         seats,
         settler,
-    } = LastingBroker::<J, F>::begin(alloc, noted, false, &journaling)?;
-    let journal = SharedJournal::new(alloc, &shared, journaling.storage, settler);
+    } = LastingBroker::<J, S>::begin(alloc, noted, false, journaling)?;
+    let journal = SharedJournal::new(alloc, &shared, settler);
     let (settler, served) = serve_to_end(rt, alloc, &seats, journal, reader, writer);
     let broker = LastingBroker {
         shared,
@@ -150,8 +149,7 @@ fn served<
 /// or memory for it is refused, it ends without the replies and answers NotKept. It is refused as `pipe` is, and where
 /// the journal cannot begin (WriteFailed). The thread that keeps it each second is another one.
 pub fn pipe_lasting<
-    F: Appender + Drop + Send,
-    S: Storage<F> + Sync,
+    S: Storage + Drop + Send,
     T: Threads + Wait + Clock + Sync,
     R: Reader,
     W: Writer,
@@ -159,15 +157,15 @@ pub fn pipe_lasting<
     rt: &T,
     alloc: Global,
     broker: Broker,
-    journaling: Journaling<'_, S>,
+    journaling: Journaling<S>,
     reader: &mut R,
     writer: &mut W,
-) -> Result<Left<F>, Unserved>
+) -> Result<Left<S>, Unserved>
     requires broker { IsUncalled broker }
     requires reader { R.failures reader.old < MAX_FAILURES }
     requires writer { W.failures writer.old < MAX_FAILURES }
     ensures { IfOk result (λ left. IsLeftBy broker left.image.items left.journal) }
 {
     let noted = begin_noting(alloc, broker)?;
-    served::<Brand, F, S, T, R, W>(rt, alloc, noted, journaling, reader, writer)
+    served::<Brand, S, T, R, W>(rt, alloc, noted, journaling, reader, writer)
 }

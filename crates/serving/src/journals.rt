@@ -8,7 +8,7 @@ ghost use Rattle.serving.specs.Image.{IsOpenedOver};
 ghost use Rattle.serving.specs.declared.journals.Unserved.TheVariants.{Refused};
 
 use engine::Failure;
-use journal_file::{Appender, Journal};
+use journal_file::{Journal, Storage};
 use lasting::{Policy, first_words};
 use named::Broker;
 use session::Session;
@@ -18,18 +18,18 @@ use workers::{Noting, Opened};
 
 /// Where a journal is put, and when it keeps what was done.
 #[derive(Drop)]
-pub struct Journaling<'a, S> {
-    pub storage: &'a S,
+pub struct Journaling<S> {
+    pub storage: S,
     pub policy: Policy,
 }
 
 /// What is left of a broker that was served with a journal.
 #[derive(Drop)]
-pub struct Left<F: Appender + Drop> {
+pub struct Left<S: Storage + Drop> {
     /// The image of the broker.
     pub image: Vec<u8>,
     /// The journal, whose words are those of the image.
-    pub journal: Journal<F>,
+    pub journal: Journal<S>,
 }
 
 /// Why a broker is not served with a journal, or not to its end.

@@ -6,8 +6,8 @@ ghost use Rattle.chronicle.specs.Chronicled.{entries};
 use desk::MarkingDesk;
 use devices::Failed;
 use engine::Desk;
-use journal_file::{Appender, Storage};
-use lasting::SharedJournal;
+use journal_file::Storage;
+use lasting::{Settling, SharedJournal};
 use seating::Seating;
 use std::alloc::{AllocError, Global};
 use std::sync::Wait;
@@ -16,21 +16,21 @@ use workers::Naming;
 
 /// Where the requests of one connection are answered, by a broker that connections share, and settled in its journal.
 #[derive(Drop)]
-pub struct LastingDesk<'a, 'j, J: Naming, F: Appender + Drop, S: Storage<F>> {
+pub struct LastingDesk<'a, 'j, J: Naming + Settling, S: Storage + Drop> {
     /// What is settled of it stands at the session of its last token, which the journal assures.
     pub desk: MarkingDesk<'a, J>,
-    journal: &'a SharedJournal<'j, J, F, S>,
+    journal: &'a SharedJournal<'j, J, S>,
     /// How often it failed to settle.
     pub unsettled: u64,
 }
 
-impl<'a, 'j, J: Naming, F: Appender + Drop, S: Storage<F>> LastingDesk<'a, 'j, J, F, S> {
+impl<'a, 'j, J: Naming + Settling, S: Storage + Drop> LastingDesk<'a, 'j, J, S> {
     /// A desk that has served nothing. It takes memory for one word, and none for what it serves.
     pub fn new<R: Wait>(
         rt: &R,
         alloc: Global,
         seats: &'a Seating<J>,
-        journal: &'a SharedJournal<'j, J, F, S>,
+        journal: &'a SharedJournal<'j, J, S>,
     ) -> Result<Self, AllocError>
         ensures served { IfOk result (λ desk. entries desk.desk.served ≡ []) }
         ensures unsettled { IfOk result (λ desk. desk.unsettled ≡ 0) }
@@ -44,7 +44,7 @@ impl<'a, 'j, J: Naming, F: Appender + Drop, S: Storage<F>> LastingDesk<'a, 'j, J
     }
 }
 
-impl<J: Naming, F: Appender + Drop, S: Storage<F>> Desk for LastingDesk<'_, '_, J, F, S> {
+impl<J: Naming + Settling, S: Storage + Drop> Desk for LastingDesk<'_, '_, J, S> {
     ghost served = { λ desk. entries desk.desk.served };
 
     ghost settled = { λ desk. desk.desk.served.settled };

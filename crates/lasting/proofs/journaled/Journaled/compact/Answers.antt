@@ -1,5 +1,5 @@
 use Rattle.lasting.specs.Lasting.{Kept}
-use Rattle.lasting.proofs.Moments.{kept_compacted}
+use Rattle.lasting.proofs.Moments.{kept_compacting}
 use Rattle.lasting.proofs.journaled.Journaled.compact.Goals as goal
 
 pub invariant_of-self : goal.invariant_of-self
@@ -12,4 +12,5 @@ invariant_of-self g c =
       journal = c.self.inside.journal;
       assured = c.self.inside.handed.assured;
     } in
-    kept_compacted g.J.Naming.first old c.args.key.now c.in_ok-compacted.compacted c.self.invariant c.in_ok-compacted.ensures.journal
+    kept_compacting g.J.Naming.first old c.args.key.now c.compact.new.self c.compact.result c.self.invariant
+    c.compact.ensures.journal c.compact.ensures.no_more c.compact.ensures.words

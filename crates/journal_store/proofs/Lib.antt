@@ -1,0 +1,2 @@
+mod Storing
+mod Cuts
