@@ -491,8 +491,8 @@ impl<'a> Page<'a> {
                 self.picture()?;
                 self.effects(prefix, explanation)
             }
-            Answer::Impossible(prefix, refutation, before) => {
-                self.name_all(prefix, &refutation.witness);
+            Answer::Impossible(prefix, witness, before) => {
+                self.name_all(prefix, witness);
                 self.picture()?;
                 let last = prefix.count.saturating_sub(1);
                 self.effects(&prefix_of(self.alloc, self.recording, last)?, before)?;

@@ -652,12 +652,7 @@ pub fn verdict(
             let entries = explanation.order.entries.as_slice();
             explained(alloc, counts_of(recording, prefix, entries))
         }
-        Answer::Impossible(prefix, refutation, _) => impossible(
-            alloc,
-            recording,
-            prefix,
-            &refutation.witness,
-        ),
+        Answer::Impossible(prefix, witness, _) => impossible(alloc, recording, prefix, witness),
         Answer::Unknown => String::from_str(
             alloc,
             "unknown: no order was found that the checker accepts, and no reason why there is none\n",
