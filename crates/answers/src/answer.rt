@@ -5,7 +5,7 @@ ghost use Rattle.answers.specs.Answers.{IsExplanation, IsRefutation, IsRight};
 
 use events::{Entry, History, Order, Sequence};
 use findings::{Lack, Witness, explains_known, refutes};
-use prefixes::{Prefix, facts_of, prefix_of, told_events};
+use prefixes::{Facts, Prefix, facts_of, prefix_of, told_events};
 use recording::Recording;
 use seeking::{Found, search};
 use std::alloc::{AllocError, Global};
@@ -42,16 +42,16 @@ fn judge_order(
 ) -> Result<Option<Explanation>, AllocError>
     ensures { IfOk result (λ found. IfSome found (λ e. IsExplanation recording.now count e)) }
 {
-    let facts = facts_of(alloc, recording, count)?;
+    let Facts { events, learnt } = facts_of(alloc, recording, count)?;
     let history = History {
         base: Sequence::new(alloc),
         told: [Told::None; 16],
-        events: told_events(alloc, &facts.events, &entries)?,
+        events: told_events(alloc, events, &entries)?,
     };
     let order = Order {
         entries: Sequence::from_vec(entries),
     };
-    match explains_known(alloc, &history, &facts.learnt, &order) {
+    match explains_known(alloc, &history, &learnt, &order) {
         Ok(true) => Ok(Some(Explanation { history, order })),
         Ok(false) => Ok(None),
         Err(_) => Err(AllocError),

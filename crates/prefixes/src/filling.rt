@@ -47,8 +47,8 @@ fn telling(event: Event, told: &Reports) -> Event
 }
 
 /// The same events, but each Ready tells a client of its last call, and whether that is in the order.
-pub fn told_events(alloc: Global, events: &Events, entries: &[Entry]) -> Result<Events, AllocError>
-    ensures { IfOk result (λ filled. map untold filled.items ≡ map untold events.now.items) }
+pub fn told_events(alloc: Global, events: Events, entries: &[Entry]) -> Result<Events, AllocError>
+    ensures { IfOk result (λ filled. map untold filled.items ≡ map untold events.items) }
 {
     let replies = replies(alloc, events.len(), entries)?;
     let mut told = [Told::None; 16];

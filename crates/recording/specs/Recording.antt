@@ -1,5 +1,5 @@
 -- What a recording says of its calls and values.
-use Rattle.std.specs.Prelude.{ℕ, Option, Some, None, slice_get, unwrap_or}
+use Rattle.std.specs.Prelude.{ℕ, ◌<◌, ◌≢◌, List, length, slice_index, Option, Some, None, slice_get, unwrap_or}
 use Rattle.words.specs.PlainQueue.{Value}
 use Rattle.words.specs.declared.call.Call.{Call}
 use Rattle.words.specs.declared.call.Call.TheVariants.{Enq, Deq}
@@ -29,3 +29,7 @@ call_with recording None = Deq
 -- what a call asks for
 abbrev pub asked_by : Recording → CallOf → Call
 asked_by recording call = call_with recording call.puts
+
+-- no two of the numbers are the same
+pub record AreDistinct (numbers : List ℕ) : Type 0 where
+  pub each : (j k : ℕ) → j < k → k < length numbers → slice_index numbers j ≢ slice_index numbers k

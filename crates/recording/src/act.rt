@@ -4,6 +4,7 @@ ghost use Rattle.std.specs.Prelude.{◌≡◌};
 ghost use Rattle.recording.specs.Recording.{message, reply_of, asked_by};
 
 use findings::ranked;
+use indexmap::IndexSet;
 use words::{Call, Reply, Value};
 
 /// What a call was answered.
@@ -55,8 +56,8 @@ pub struct CallOf {
 pub struct Recording {
     pub calls: Vec<CallOf>,
     pub steps: Vec<Step>,
-    pub clients: Vec<String>,
-    pub values: Vec<String>,
+    pub clients: IndexSet<String>,
+    pub values: IndexSet<String>,
     pub times: Vec<String>,
     /// For each value its number among those that are put, as they are put; those that are not come behind.
     pub ranks: Vec<u32>,

@@ -239,7 +239,7 @@ impl<'a> Page<'a> {
 
     /// The value of this number, as it is shown.
     fn shown_value(&self, value: usize) -> Result<String, AllocError> {
-        match self.recording.values.get(value) {
+        match self.recording.values.get_index(value) {
             Some(text) => shown(self.alloc, text.as_str()),
             None => Ok(String::new(self.alloc)),
         }
@@ -267,7 +267,7 @@ impl<'a> Page<'a> {
     /// How wide the names of the clients are.
     fn names_width(&self) -> Result<usize, AllocError> {
         let mut longest = 0usize;
-        for json in &self.recording.clients {
+        for json in self.recording.clients.iter() {
             longest = longest.max(shown(self.alloc, json.as_str())?.chars().count());
         }
         Ok(

@@ -152,13 +152,13 @@ impl<'a> Pen<'a> {
             .get(call)
             .copied()
             .map_or(0, |call| call.client);
-        if let Some(text) = self.recording.clients.get(client) {
+        if let Some(text) = self.recording.clients.get_index(client) {
             self.show(text.as_str());
         }
     }
 
     fn value(&mut self, value: usize) {
-        if let Some(text) = self.recording.values.get(value) {
+        if let Some(text) = self.recording.values.get_index(value) {
             self.show(text.as_str());
         }
     }

@@ -18,9 +18,9 @@ returns-in-Ok-true c =
     let right = c.in-Ok-true.ensures.right.0 c.in-Ok-true.field-0-test in
     let known = c.in-Ok-true.ensures.explained c.in-Ok-true.field-0-test in
     let told : map untold filled ≡ events_of rec steps =
-    c.in_ok-told_events.ensures ∙ ap (map untold) c.in_ok-facts.ensures.events ∙ untold_events rec steps in
+    c.in_ok-told_events.ensures ∙ ap (map untold) c.in_ok-events.ensures.events ∙ untold_events rec steps in
     let learnt : c.deref-2.result.now ≡ learnt_of rec steps =
-    c.deref-2.ensures.value ∙ c.in_ok-facts.ensures.learnt in
+    c.deref-2.ensures.value ∙ c.in_ok-events.ensures.learnt in
     record {
       base = right.1.0;
       told = refl;

@@ -7,7 +7,7 @@ use Rattle.prefixes.proofs.filling.told_events.Goals as goal
 
 pub loop-place-preserved : goal.loop-place-preserved
 loop-place-preserved c =
-    let xs = c.args.events.now.items in
+    let xs = c.args.events.items in
     let place = c.loop-place.place in
     let here = c.at-event.result in
     let more = take_more xs place here (slice_get_within xs place here c.at-event.ensures.event) in

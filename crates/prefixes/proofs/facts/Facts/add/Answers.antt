@@ -1,4 +1,4 @@
-use Rattle.std.proofs.Common.{◌<◌, true, false, Some, None, length, refl, ap, sym, ◌∙◌, arith}
+use Rattle.std.proofs.Common.{◌<◌, true, false, Some, None, length, refl, ap, arith}
 use Rattle.std.proofs.lemmas.Result.{on_ok_weaker}
 use Rattle.recording.specs.declared.act.Act.TheVariants.{Begin, Answer}
 use Rattle.prefixes.specs.declared.facts.Fate.{Fate}
