@@ -9,7 +9,10 @@ Eight clients put into a log queue and take from it. Three times the server goes
 Each client goes before it has read the answer to its last put, and asks later what became of that.
 """
 import itertools, json, os, random, socket, subprocess, sys, tempfile, threading, time
-from record import note, written
+from recorder import Recorder
+
+recorder = Recorder()
+note = recorder.note
 
 values = (f"{number:08x}" for number in itertools.count())
 
@@ -46,7 +49,7 @@ class Client:
             return False
         self.is_open = False
         if "error" in answer:
-            note(client=self.name, reply="refused")
+            recorder.refused(self.name)
             return False
         self.number += 1
         note(client=self.name, **answer)
@@ -110,7 +113,7 @@ def main():
             server.kill() if how in ("kill", "journal") else operator.ask(how)
             # Each client has noted every answer that came, before the crash is noted.
             [thread.join() for thread in threads]
-            note(op="crash")
+            recorder.crash()
             if how == "crash":
                 operator.ask("recover")
             else:
@@ -125,6 +128,6 @@ def main():
             pass
         server.kill()
         server.wait()
-    written()
+    recorder.write()
 
 main()

@@ -5,7 +5,9 @@ Eight clients put by RPUSH and take by LPOP. Three times the server is killed (`
 the list is drained. What is asked for is how it keeps its list: not at all, or by `appendonly yes` with that appendfsync.
 """
 import random, signal, socket, subprocess, sys, tempfile, threading, time
-from record import note, written
+from recorder import Recorder
+
+recorder = Recorder()
 
 class Client:
     """A connection to the server; a call that gets no answer raises OSError."""
@@ -27,15 +29,10 @@ class Client:
         return None
 
     def put(self, value):
-        note(client=self.name, op="put", value=value)
-        self.ask(b"RPUSH", b"list", value.encode())
-        note(client=self.name, reply="done")
+        recorder.put(self.name, value, lambda: self.ask(b"RPUSH", b"list", value.encode()))
 
     def take(self):
-        note(client=self.name, op="take")
-        value = self.ask(b"LPOP", b"list")
-        note(client=self.name, reply="empty") if value is None else note(client=self.name, reply="got", got=value)
-        return value
+        return recorder.take(self.name, lambda: self.ask(b"LPOP", b"list"))
 
 def started(port, folder, keeps):
     """A server, when it answers."""
@@ -77,12 +74,12 @@ def main():
             # Each client has noted every answer that came, before the crash is noted.
             [thread.join() for thread in threads]
             if kill < 3:
-                note(op="crash")
+                recorder.crash()
         drain = Client("drain", port)
         while drain.take() is not None:
             pass
         server.kill()
         server.wait()
-    written()
+    recorder.write()
 
 main()

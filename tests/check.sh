@@ -1,7 +1,8 @@
 #!/usr/bin/env bash
 # What pqx check says of recordings: the rows of tests/check/rows, each NAME.in with what is wanted of it on standard
 # output (NAME.out) and on standard error (NAME.err); entries of orders; drawn recordings against brute force; devices that
-# fail. It takes the program that the last `rt ci`, or `rt run` in crates/pqx, left, or the one that PQX names.
+# fail; histories of Jepsen (tests/check/jepsen). It takes the program that the last `rt ci`, or `rt run` in crates/pqx,
+# left, or the one that PQX names.
 set -eu
 cd "$(dirname "$0")/.."
 . tests/cases.sh
@@ -67,5 +68,17 @@ judge 'drawn recordings' "$([ "$status" -eq 0 ] || tail -n 3 "$work/out")"
 status=0
 python3 -B examples/record.py | "$pqx" check > "$work/out" 2> "$work/err" || status=$?
 judge 'examples/record.py' "$([ "$status" -eq 0 ] && grep -q '^explained: ' "$work/out" || head -n 2 "$work/out")"
+
+# Histories of Jepsen, as examples/from_jepsen.py turns them into recordings; and what that reads.
+for row in tests/check/jepsen/*.edn; do
+    name=tests/check/jepsen/$(basename "$row" .edn)
+    status=0 wanted=0
+    [ "$(head -c 9 "$name.out")" = explained ] || wanted=1
+    python3 -B examples/from_jepsen.py --crash kill "$row" | "$pqx" check > "$work/out" 2> "$work/err" || status=$?
+    compare "check $name" "$wanted" "$status" "$name.out" /dev/null
+done
+status=0
+python3 -B tests/check/edn.py > "$work/out" 2>&1 || status=$?
+judge 'what from_jepsen.py reads' "$([ "$status" -eq 0 ] || tail -n 1 "$work/out")"
 
 count

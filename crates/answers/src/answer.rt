@@ -1,15 +1,15 @@
 //! The answer: an order, or the first step with which there is none.
 
-ghost use Rattle.std.specs.Prelude.{IfOk, IfSome};
+ghost use Rattle.std.specs.Prelude.{◌≡◌, ◌<◌, ◌≤◌, length, IfOk, IfSome};
 ghost use Rattle.answers.specs.Answers.{IsExplanation, IsRefutation, IsRight};
 
-use events::{Entry, Events, History, Order, Sequence};
+use events::{Entry, History, Order, Sequence};
 use findings::{Lack, Witness, explains_known, refutes};
-use prefixes::{Prefix, prefix_of, told_events};
+use prefixes::{Facts, Prefix, facts_of, prefix_of, told_events};
 use recording::Recording;
 use seeking::{Found, search};
 use std::alloc::{AllocError, Global};
-use words::{Outcome, Told};
+use words::Told;
 
 /// Hears how far the search has come.
 pub trait Watch {
@@ -17,20 +17,11 @@ pub trait Watch {
     fn look(&mut self, steps: usize);
 }
 
-/// A history, what was learnt of its calls, and an order.
+/// A history, and an order that explains it.
 #[derive(Drop)]
 pub struct Explanation {
     pub history: History,
-    pub learnt: Vec<Option<Outcome>>,
     pub order: Order,
-}
-
-/// A history, what was learnt of its calls, and a witness.
-#[derive(Drop)]
-pub struct Refutation {
-    pub events: Events,
-    pub learnt: Vec<Option<Outcome>>,
-    pub witness: Witness,
 }
 
 /// What is said of a recording. Each answer but Unknown was judged.
@@ -38,60 +29,50 @@ pub struct Refutation {
 pub enum Answer {
     Explained(Prefix, Explanation),
     /// No order explains the first steps, up to this prefix, and one explains those before the last of them.
-    Impossible(Prefix, Refutation, Explanation),
+    Impossible(Prefix, Witness, Explanation),
     Unknown,
 }
 
-/// The order, where it explains these steps, as the checker of histories sees it.
+/// The order, where it explains the first so many steps, as the checker of histories sees it.
 fn judge_order(
     alloc: Global,
     recording: &Recording,
-    prefix: &Prefix,
+    count: usize,
     entries: Vec<Entry>,
 ) -> Result<Option<Explanation>, AllocError>
-    ensures { IfOk result (λ found. IfSome found (λ e. IsExplanation e)) }
+    ensures { IfOk result (λ found. IfSome found (λ e. IsExplanation recording.now count e)) }
 {
-    let events = told_events(alloc, recording, prefix, &entries)?;
-    let learnt = prefix.learnt(alloc)?;
+    let Facts { events, learnt } = facts_of(alloc, recording, count)?;
     let history = History {
         base: Sequence::new(alloc),
         told: [Told::None; 16],
-        events,
+        events: told_events(alloc, events, &entries)?,
     };
     let order = Order {
         entries: Sequence::from_vec(entries),
     };
     match explains_known(alloc, &history, &learnt, &order) {
-        Ok(true) => {}
-        Ok(false) => return Ok(None),
-        Err(_) => return Err(AllocError),
+        Ok(true) => Ok(Some(Explanation { history, order })),
+        Ok(false) => Ok(None),
+        Err(_) => Err(AllocError),
     }
-    Ok(Some(Explanation {
-        history,
-        learnt,
-        order,
-    }))
 }
 
-/// The witness, where it shows that no order explains these steps.
+/// The witness, where it shows that no order explains the first so many steps.
 fn judge_witness(
     alloc: Global,
     recording: &Recording,
-    prefix: &Prefix,
+    count: usize,
     witness: Witness,
-) -> Result<Option<Refutation>, AllocError>
-    ensures { IfOk result (λ found. IfSome found (λ r. IsRefutation r)) }
+) -> Result<Option<Witness>, AllocError>
+    ensures { IfOk result (λ found. IfSome found (λ w. IsRefutation recording.now count w)) }
 {
-    let events = prefix.events(alloc, recording)?;
-    let learnt = prefix.learnt(alloc)?;
-    if !refutes(&events, &learnt, &witness) {
-        return Ok(None);
+    let facts = facts_of(alloc, recording, count)?;
+    if refutes(&facts.events, &facts.learnt, &witness) {
+        Ok(Some(witness))
+    } else {
+        Ok(None)
     }
-    Ok(Some(Refutation {
-        events,
-        learnt,
-        witness,
-    }))
 }
 
 /// The call that ends last of those that are named, by the places at which they begin.
@@ -229,7 +210,7 @@ impl Between {
 
 /// Judges both sides of the step with which there is no order any more.
 fn judged(alloc: Global, recording: &Recording, between: Between) -> Result<Answer, AllocError>
-    ensures { IfOk result (λ answer. IsRight answer) }
+    ensures { IfOk result (λ answer. IsRight recording.now answer) }
 {
     let Between {
         low,
@@ -238,18 +219,17 @@ fn judged(alloc: Global, recording: &Recording, between: Between) -> Result<Answ
         witness,
         is_lost,
     } = between;
-    if is_lost || low.saturating_add(1) != high {
+    if is_lost || high == 0 || low != high - 1 || high > recording.steps.len() {
         return Ok(Answer::Unknown);
     }
-    let before = prefix_of(alloc, recording, low)?;
-    let Some(explanation) = judge_order(alloc, recording, &before, order)? else {
+    let Some(explanation) = judge_order(alloc, recording, low, order)? else {
+        return Ok(Answer::Unknown);
+    };
+    let Some(witness) = judge_witness(alloc, recording, high, witness)? else {
         return Ok(Answer::Unknown);
     };
     let prefix = prefix_of(alloc, recording, high)?;
-    let Some(refutation) = judge_witness(alloc, recording, &prefix, witness)? else {
-        return Ok(Answer::Unknown);
-    };
-    Ok(Answer::Impossible(prefix, refutation, explanation))
+    Ok(Answer::Impossible(prefix, witness, explanation))
 }
 
 /// Finds the first step with which there is no order.
@@ -260,7 +240,7 @@ fn first<W: Watch>(
     witness: Witness,
     watch: &mut W,
 ) -> Result<Answer, AllocError>
-    ensures { IfOk result (λ answer. IsRight answer) }
+    ensures { IfOk result (λ answer. IsRight recording.now answer) }
 {
     let mut between = Between {
         low: 0,
@@ -278,20 +258,20 @@ fn first<W: Watch>(
     judged(alloc, recording, between)
 }
 
-/// Whether an order explains the recording, or why none does: an order is explained with only if the checker of
-/// histories accepts it, and a recording is impossible only where a witness was judged to show so, of the first steps,
-/// and an order was accepted of those before the last of these.
+/// Whether an order explains the recording, or why none does. What the search finds is judged against what the steps
+/// come to: an order by the checker of histories, and a witness by the judge of witnesses. Where a judge refuses what
+/// was found, or nothing was, the answer is Unknown.
 pub fn answer_of<W: Watch>(
     alloc: Global,
     recording: &Recording,
     watch: &mut W,
 ) -> Result<Answer, AllocError>
-    ensures { IfOk result (λ answer. IsRight answer) }
+    ensures { IfOk result (λ answer. IsRight recording.now answer) }
 {
     let whole = prefix_of(alloc, recording, recording.steps.len())?;
     watch.look(recording.steps.len());
     match search(alloc, &whole.calls)? {
-        Found::Order(order) => match judge_order(alloc, recording, &whole, order)? {
+        Found::Order(order) => match judge_order(alloc, recording, recording.steps.len(), order)? {
             Some(explanation) => Ok(Answer::Explained(whole, explanation)),
             None => Ok(Answer::Unknown),
         },

@@ -8,3 +8,4 @@ mod Covering
 mod Tables
 mod Same
 mod Filled
+pub mod Untold

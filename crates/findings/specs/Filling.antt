@@ -8,6 +8,8 @@ use Rattle.words.specs.declared.told.Outcome.{Outcome}
 use Rattle.words.specs.declared.told.Told.{Told}
 use Rattle.words.specs.declared.told.Told.TheVariants.{None as told_none, Verdict as told_verdict}
 use Rattle.events.specs.declared.event.Event.{Event}
+use Rattle.events.specs.declared.event.Event.TheVariants.{Call as call_event, Return as return_event}
+use Rattle.events.specs.declared.event.Event.TheVariants.{Crash as crash_event, Ready as ready_event}
 use Rattle.events.specs.declared.event.Entry.{Entry}
 use Rattle.events.specs.Explains.{Explains}
 use Rattle.events.specs.History.{CallAt, ReturnAt, CrashAt, ReadyAt, IsEnd, IsHistory}
@@ -60,6 +62,13 @@ pub record IsFilling (events : List Event) (learnt : List (Option Outcome)) (fil
 -- nobody was told anything before
 abbrev pub told_nothing : List Told
 told_nothing = replicate MAX_CLIENTS told_none
+
+-- the event; but a Ready tells nobody anything
+abbrev pub untold : Event → Event
+untold (call_event client number call) = call_event client number call
+untold (return_event client reply) = return_event client reply
+untold crash_event = crash_event
+untold (ready_event told) = ready_event told_nothing
 
 -- some filling is a history that may arise, and the order explains it
 pub record SomeFillingIsExplained (events : List Event) (learnt : List (Option Outcome)) (order : List Entry)

@@ -1,8 +1,9 @@
 //! What recovery tells clients, by an order.
 
-use crate::prefix::Prefix;
-use events::{Entry, Event, Events};
-use recording::Recording;
+ghost use Rattle.std.specs.Prelude.{◌≡◌, map, IfOk};
+ghost use Rattle.findings.specs.Filling.{untold};
+
+use events::{Entry, Event, Events, copied};
 use std::alloc::{AllocError, Global};
 use words::{Client, Outcome, Reply, Reports, Told, Verdict};
 
@@ -35,24 +36,31 @@ fn tell(told: &mut Reports, client: Client, number: u64, reply: Option<Reply>) {
     }
 }
 
-/// The events of the first steps. Each Ready tells a client of its last call, and whether that is in the order.
-pub fn told_events(
-    alloc: Global,
-    recording: &Recording,
-    prefix: &Prefix,
-    entries: &[Entry],
-) -> Result<Events, AllocError> {
-    let replies = replies(alloc, prefix.calls.places, entries)?;
-    let mut told = [Told::None; 16];
-    let mut events = prefix.room(alloc)?;
-    for place in 0..prefix.count_events() {
-        let event = prefix.event(recording, place, &told);
-        if let Event::Call { client, number, .. } = event {
-            let reply = replies.get(place).copied().unwrap_or(None);
-            tell(&mut told, client, number, reply);
-        }
-        events.reserve(1)?;
-        events.push(event);
+/// The event; but if it is a Ready, it tells this.
+fn telling(event: Event, told: &Reports) -> Event
+    ensures { untold result ≡ untold event }
+{
+    match event {
+        Event::Ready { .. } => Event::Ready { told: copied(told) },
+        other => other,
     }
-    Ok(events)
+}
+
+/// The same events, but each Ready tells a client of its last call, and whether that is in the order.
+pub fn told_events(alloc: Global, events: Events, entries: &[Entry]) -> Result<Events, AllocError>
+    ensures { IfOk result (λ filled. map untold filled.items ≡ map untold events.items) }
+{
+    let replies = replies(alloc, events.len(), entries)?;
+    let mut told = [Told::None; 16];
+    let mut filled = Events::with_room(alloc, events.len(), 1)?;
+    for place in 0..events.len() {
+        let event = events.at(place);
+        if let Event::Call { client, number, .. } = &event {
+            let reply = replies.get(place).copied().unwrap_or(None);
+            tell(&mut told, *client, *number, reply);
+        }
+        filled.reserve(1)?;
+        filled.push(telling(event, &told));
+    }
+    Ok(filled)
 }

@@ -1,7 +1,11 @@
 //! What was recorded, one thing after another.
 
+ghost use Rattle.std.specs.Prelude.{◌≡◌};
+ghost use Rattle.recording.specs.Recording.{message, reply_of, asked_by};
+
 use findings::ranked;
-use words::Value;
+use indexmap::IndexSet;
+use words::{Call, Reply, Value};
 
 /// What a call was answered.
 #[derive(Clone, Copy)]
@@ -52,8 +56,8 @@ pub struct CallOf {
 pub struct Recording {
     pub calls: Vec<CallOf>,
     pub steps: Vec<Step>,
-    pub clients: Vec<String>,
-    pub values: Vec<String>,
+    pub clients: IndexSet<String>,
+    pub values: IndexSet<String>,
     pub times: Vec<String>,
     /// For each value its number among those that are put, as they are put; those that are not come behind.
     pub ranks: Vec<u32>,
@@ -61,7 +65,30 @@ pub struct Recording {
 
 impl Recording {
     /// The message that stands for a value: its number among those that are put.
-    pub fn message(&self, value: usize) -> Value {
+    pub fn message(&self, value: usize) -> Value
+        ensures { result ≡ message self.now value }
+    {
         ranked(self.ranks.get(value).copied().unwrap_or(u32::MAX))
+    }
+
+    /// The reply that was said.
+    pub fn reply_of(&self, said: Said) -> Reply
+        ensures { result ≡ reply_of self.now said }
+    {
+        match said {
+            Said::Done => Reply::Done,
+            Said::Got(value) => Reply::Got(self.message(value)),
+            Said::Empty => Reply::Empty,
+        }
+    }
+
+    /// What a call asks for.
+    pub fn asked_by(&self, call: CallOf) -> Call
+        ensures { result ≡ asked_by self.now call }
+    {
+        match call.puts {
+            Some(value) => Call::Enq(self.message(value)),
+            None => Call::Deq,
+        }
     }
 }

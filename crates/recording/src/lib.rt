@@ -2,13 +2,12 @@
 #![tactic(auto)]
 
 mod act;
-mod clients;
 mod fault;
 mod line;
 mod members;
-mod named;
 mod reader;
 mod reading;
+mod state;
 mod timed;
 mod wording;
 

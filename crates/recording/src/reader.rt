@@ -1,21 +1,37 @@
 //! Puts together a recording, line by line.
 
+ghost use Rattle.std.specs.Prelude.{◌≡◌, ◌<◌, Some, codes, length, map, option_map, slice_get, unwrap_or};
+ghost use Rattle.std.specs.Prelude.{IfOk, IsTrue, OnOk};
+ghost use Rattle.std.specs.String.{string_bytes};
+ghost use Rattle.recording.specs.Reading.{number_in, with_client, with_value, with_put, with_step, with_call};
+ghost use Rattle.recording.specs.Reading.{free_number, IsPutBefore, does_put, said_by, with_got, with_free};
+ghost use Rattle.recording.specs.Reading.{with_answer, MayAnswer, with_crash, crashed, with_state, with_held};
+ghost use Rattle.recording.specs.Reading.{after_answer, IsBeginLine, IsAnswerLine, IsToldLine, IsLine};
+ghost use Rattle.recording.specs.Reading.{with_base_value, with_base, with_left_value, with_left, with_final};
+ghost use Rattle.recording.specs.Reader.{read_of, bytes_of, IsOfRead};
+ghost use Rattle.recording.specs.Recording.{AreDistinct};
+
 use crate::act::{Act, CallOf, Recording, Said, Step};
-use crate::clients::{Clients, State};
 use crate::fault::{Fault, Why};
 use crate::line::{Answered, Line, Told};
-use crate::named::Named;
+use crate::state::State;
 use crate::wording::shown;
-use std::alloc::Global;
+use indexmap::IndexSet;
+use std::alloc::{AllocError, Global};
+use words::MAX_CLIENTS;
 
-/// What a recording has come to.
+/// What a recording has come to. Clients and values have numbers, as they first come.
 #[derive(Drop)]
 pub(crate) struct Reader {
     alloc: Global,
-    clients: Named,
-    values: Named,
-    is_put: Vec<bool>,
-    states: Clients,
+    clients: IndexSet<String>,
+    /// What each client is about.
+    states: Vec<State>,
+    values: IndexSet<String>,
+    /// Whether each value was put.
+    put: Vec<bool>,
+    /// Which of the numbers by which a history knows clients are in use.
+    held: Vec<bool>,
     calls: Vec<CallOf>,
     steps: Vec<Step>,
     times: Vec<String>,
@@ -33,10 +49,11 @@ impl Reader {
     pub(crate) fn new(alloc: Global) -> Self {
         Reader {
             alloc,
-            clients: Named::new(alloc),
-            values: Named::new(alloc),
-            is_put: Vec::new(alloc),
-            states: Clients::new(alloc),
+            clients: IndexSet::new(alloc),
+            states: Vec::new(alloc),
+            values: IndexSet::new(alloc),
+            put: Vec::new(alloc),
+            held: Vec::new(alloc),
             calls: Vec::new(alloc),
             steps: Vec::new(alloc),
             times: Vec::new(alloc),
@@ -50,7 +67,34 @@ impl Reader {
         Ok(u32::try_from(self.times.len()).unwrap_or(0))
     }
 
-    fn add(&mut self, act: Act, at: At) -> Result<(), Fault> {
+    /// The number of a client.
+    pub(crate) fn client(&mut self, text: String) -> Result<usize, Fault>
+        ensures number { IfOk result (λ n. n ≡ number_in (read_of self.old).clients (string_bytes text)) }
+        ensures read { OnOk result (read_of self.new ≡ with_client (read_of self.old) (string_bytes text)) }
+    {
+        let (client, is_new) = self.clients.insert_full(text)?;
+        if is_new {
+            self.states.push(State::Idle)?;
+        }
+        Ok(client)
+    }
+
+    /// The number of a value.
+    fn value(&mut self, text: String) -> Result<usize, Fault>
+        ensures number { IfOk result (λ n. n ≡ number_in (read_of self.old).values (string_bytes text)) }
+        ensures read { OnOk result (read_of self.new ≡ with_value (read_of self.old) (string_bytes text)) }
+    {
+        let (value, is_new) = self.values.insert_full(text)?;
+        if is_new {
+            self.put.push(false)?;
+        }
+        Ok(value)
+    }
+
+    /// A step more.
+    fn add(&mut self, act: Act, at: At) -> Result<(), Fault>
+        ensures { OnOk result (read_of self.new ≡ with_step (read_of self.old) act at) }
+    {
         self.steps.push(Step {
             act,
             line: at.line,
@@ -59,30 +103,73 @@ impl Reader {
         Ok(())
     }
 
+    /// What a client's name shows.
     fn client_text(&self, client: usize) -> Result<String, Fault> {
-        match self.clients.texts.get(client) {
+        match self.clients.get_index(client) {
+            Some(text) => Ok(shown(self.alloc, text.as_str())?),
+            None => Ok(String::new(self.alloc)),
+        }
+    }
+
+    /// What a value shows.
+    fn value_text(&self, value: usize) -> Result<String, Fault> {
+        match self.values.get_index(value) {
             Some(text) => Ok(shown(self.alloc, text.as_str())?),
             None => Ok(String::new(self.alloc)),
         }
     }
 
     /// The number of a value that is put now, for the first time.
-    fn put(&mut self, text: String, at: At) -> Result<usize, Fault> {
-        let value = self.values.number(text)?;
-        for _ in self.is_put.len()..value.saturating_add(1) {
-            self.is_put.push(false)?;
-        }
-        if self.is_put.get(value).copied() == Some(true) {
-            let text = match self.values.texts.get(value) {
-                Some(text) => shown(self.alloc, text.as_str())?,
-                None => String::new(self.alloc),
-            };
-            return Err(Fault::Line(at.line, Why::PutTwice(text)));
-        }
-        if let Some(is_put) = self.is_put.get_mut(value) {
-            *is_put = true;
+    fn put(&mut self, text: String, at: At) -> Result<usize, Fault>
+        ensures number { IfOk result (λ n. n ≡ number_in (read_of self.old).values (string_bytes text)) }
+        ensures read { OnOk result (read_of self.new ≡ with_put (read_of self.old) (Some (string_bytes text))) }
+        ensures first { OnOk result (IsPutBefore (read_of self.old) (Some (string_bytes text)) → ⊥) }
+    {
+        let value = self.value(text)?;
+        if value < self.put.len() {
+            if self.put[value] {
+                return Err(Fault::Line(at.line, Why::PutTwice(self.value_text(value)?)));
+            }
+            self.put[value] = true;
         }
         Ok(value)
+    }
+
+    /// The number of the value that a call puts, if it puts one.
+    fn put_any(&mut self, puts: Option<String>, at: At) -> Result<Option<usize>, Fault>
+        ensures number { IfOk result (λ n. n ≡ option_map (number_in (read_of self.old).values) (bytes_of puts)) }
+        ensures read { OnOk result (read_of self.new ≡ with_put (read_of self.old) (bytes_of puts)) }
+        ensures first { OnOk result (IsPutBefore (read_of self.old) (bytes_of puts) → ⊥) }
+    {
+        match puts {
+            Some(text) => Ok(Some(self.put(text, at)?)),
+            None => Ok(None),
+        }
+    }
+
+    /// The lowest number that is free.
+    fn free_number(&self) -> usize
+        ensures { result ≡ free_number (read_of self.now).held }
+    {
+        for number in 0..self.held.len() {
+            if !self.held[number] {
+                return number;
+            }
+        }
+        self.held.len()
+    }
+
+    /// The lowest number that is free is in use from now on.
+    fn hold(&mut self, number: usize) -> Result<(), Fault>
+        requires { number ≡ free_number (read_of self.old).held }
+        ensures { OnOk result (read_of self.new ≡ with_held (read_of self.old)) }
+    {
+        if number < self.held.len() {
+            self.held[number] = true;
+        } else {
+            self.held.push(true)?;
+        }
+        Ok(())
     }
 
     /// A call of a client begins.
@@ -92,18 +179,22 @@ impl Reader {
         puts: Option<String>,
         is_base: bool,
         at: At,
-    ) -> Result<usize, Fault> {
-        let puts = match puts {
-            Some(text) => Some(self.put(text, at)?),
-            None => None,
-        };
-        let Some(number) = self.states.hold() else {
+    ) -> Result<usize, Fault>
+        ensures number { IfOk result (λ call. call ≡ length (read_of self.old).calls) }
+        ensures read { OnOk result (read_of self.new ≡ with_call (read_of self.old) client (bytes_of puts) is_base at) }
+        ensures first { OnOk result (IsPutBefore (read_of self.old) (bytes_of puts) → ⊥) }
+        ensures room { OnOk result (free_number (read_of self.old).held < MAX_CLIENTS) }
+    {
+        let puts = self.put_any(puts, at)?;
+        let number = self.free_number();
+        if number >= MAX_CLIENTS {
             return Err(Fault::Line(at.line, Why::TooManyCalls));
-        };
+        }
+        self.hold(number)?;
         let call = self.calls.len();
         self.calls.push(CallOf {
             client,
-            number,
+            number: number as u8,
             puts,
             is_base,
         })?;
@@ -112,41 +203,60 @@ impl Reader {
     }
 
     /// What an answer says, if it is one of such a call.
-    fn said(&mut self, call: usize, answered: Answered) -> Result<Option<Said>, Fault> {
-        let puts = match self.calls.get(call) {
-            Some(call) => call.puts.is_some(),
-            None => false,
-        };
+    fn said(&mut self, call: usize, answered: Answered) -> Result<Option<Said>, Fault>
+        ensures said { IfOk result (λ said. said
+            ≡ said_by (read_of self.old) (does_put (read_of self.old) call) answered) }
+        ensures read { OnOk result (read_of self.new
+            ≡ with_got (read_of self.old) (does_put (read_of self.old) call) answered) }
+    {
+        let puts = self.does_put(call);
         match answered {
             Answered::Done if puts => Ok(Some(Said::Done)),
             Answered::Empty if !puts => Ok(Some(Said::Empty)),
-            Answered::Got(text) if !puts => Ok(Some(Said::Got(self.values.number(text)?))),
+            Answered::Got(text) if !puts => Ok(Some(Said::Got(self.value(text)?))),
             _ => Ok(None),
         }
     }
 
-    fn free(&mut self, call: usize) {
-        if let Some(call) = self.calls.get(call).copied() {
-            self.states.free(call.number);
+    /// Whether a call puts.
+    fn does_put(&self, call: usize) -> bool
+        ensures { result ≡ does_put (read_of self.now) call }
+    {
+        match self.calls.get(call) {
+            Some(call) => call.puts.is_some(),
+            None => false,
         }
     }
 
-    /// The call is answered, refused or given up. The answer is whether it is open still.
+    /// The number of a call is free again.
+    fn free(&mut self, call: usize)
+        ensures { read_of self.new ≡ with_free (read_of self.old) (slice_get (read_of self.old).calls call) }
+    {
+        let number = match self.calls.get(call) {
+            Some(of) => of.number as usize,
+            None => return,
+        };
+        if number < self.held.len() {
+            self.held[number] = false;
+        }
+    }
+
+    /// The call is answered, refused or given up.
     pub(crate) fn answer(
         &mut self,
         client: usize,
         call: usize,
         answered: Answered,
         at: At,
-    ) -> Result<bool, Fault> {
+    ) -> Result<(), Fault>
+        ensures read { OnOk result (read_of self.new ≡ with_answer (read_of self.old) call answered at) }
+        ensures may { OnOk result (MayAnswer (read_of self.old) call answered) }
+    {
         match answered {
-            Answered::Unknown => {
-                self.add(Act::GiveUp(call), at)?;
-                return Ok(true);
-            }
+            Answered::Unknown => self.add(Act::GiveUp(call), at),
             Answered::Refused => {
                 self.free(call);
-                self.add(Act::Refuse(call), at)?;
+                self.add(Act::Refuse(call), at)
             }
             answered => {
                 let Some(said) = self.said(call, answered)? else {
@@ -154,86 +264,139 @@ impl Reader {
                     return Err(Fault::Line(at.line, Why::WrongAnswer(text)));
                 };
                 self.free(call);
-                self.add(Act::Answer(call, said), at)?;
+                self.add(Act::Answer(call, said), at)
             }
         }
-        Ok(false)
     }
 
-    pub(crate) fn crash(&mut self, at: At) -> Result<(), Fault> {
-        self.states.crash();
+    /// Every call that is open is interrupted.
+    pub(crate) fn crash(&mut self, at: At) -> Result<(), Fault>
+        ensures { OnOk result (read_of self.new ≡ with_crash (read_of self.old) at) }
+    {
+        self.held.clear();
+        interrupt(&mut self.states);
         self.add(Act::Crash, at)
     }
 
-    pub(crate) fn client(&mut self, text: String) -> Result<usize, Fault> {
-        Ok(self.clients.number(text)?)
+    /// What a client is about.
+    fn state(&self, client: usize) -> State
+        ensures { result ≡ unwrap_or (slice_get (read_of self.now).states client) State.Idle }
+    {
+        self.states.get(client).copied().unwrap_or(State::Idle)
     }
 
-    fn begin_line(&mut self, client: String, puts: Option<String>, at: At) -> Result<(), Fault> {
-        let client = self.clients.number(client)?;
-        if let State::Calls(_) = self.states.state(client) {
+    /// From now on it is about this.
+    fn set_state(&mut self, client: usize, state: State)
+        ensures { read_of self.new ≡ with_state (read_of self.old) client state }
+    {
+        if client < self.states.len() {
+            self.states[client] = state;
+        }
+    }
+
+    /// A line with which a client calls.
+    fn begin_line(&mut self, client: String, puts: Option<String>, at: At) -> Result<(), Fault>
+        ensures { OnOk result
+            (IsBeginLine (read_of self.old) (string_bytes client) (bytes_of puts) at (read_of self.new)) }
+    {
+        let client = self.client(client)?;
+        if let State::Calls(_) = self.state(client) {
             let text = self.client_text(client)?;
             return Err(Fault::Line(at.line, Why::UnderWay(text)));
         }
         let call = self.begin(client, puts, false, at)?;
-        self.states.set(client, State::Calls(call))?;
+        self.set_state(client, State::Calls(call));
         Ok(())
     }
 
-    fn answer_line(&mut self, client: String, answered: Answered, at: At) -> Result<(), Fault> {
-        let client = self.clients.number(client)?;
-        let State::Calls(call) = self.states.state(client) else {
+    /// A line that says what became of the call that a client has under way.
+    fn answer_line(&mut self, client: String, answered: Answered, at: At) -> Result<(), Fault>
+        ensures { OnOk result (IsAnswerLine (read_of self.old) (string_bytes client) answered at (read_of self.new)) }
+    {
+        let client = self.client(client)?;
+        let State::Calls(call) = self.state(client) else {
             let text = self.client_text(client)?;
             return Err(Fault::Line(at.line, Why::NoCall(text)));
         };
-        let is_open = self.answer(client, call, answered, at)?;
-        let state = if is_open {
-            State::GaveUp(call)
-        } else {
-            State::Idle
-        };
-        self.states.set(client, state)?;
+        let state = after_answer(call, &answered);
+        self.answer(client, call, answered, at)?;
+        self.set_state(client, state);
         Ok(())
     }
 
-    fn told_line(&mut self, client: String, told: Told, at: At) -> Result<(), Fault> {
-        let client = self.clients.number(client)?;
-        let State::Interrupted(call) = self.states.state(client) else {
+    /// A line that says what became of a client's last call, which a crash interrupted.
+    fn told_line(&mut self, client: String, told: Told, at: At) -> Result<(), Fault>
+        ensures { OnOk result (IsToldLine (read_of self.old) (string_bytes client) told at (read_of self.new)) }
+    {
+        let client = self.client(client)?;
+        let State::Interrupted(call) = self.state(client) else {
             let text = self.client_text(client)?;
             return Err(Fault::Line(at.line, Why::NotInterrupted(text)));
         };
-        self.states.set(client, State::Idle)?;
-        let act = match told {
-            Told::NotTaken => Act::LearnNotTaken(call),
-            Told::Taken(answered) => match self.said(call, answered)? {
-                Some(said) => Act::LearnTaken(call, said),
-                None => {
+        match told {
+            Told::NotTaken => {
+                self.set_state(client, State::Idle);
+                self.add(Act::LearnNotTaken(call), at)
+            }
+            Told::Taken(answered) => {
+                let Some(said) = self.said(call, answered)? else {
                     let text = self.client_text(client)?;
                     return Err(Fault::Line(at.line, Why::WrongAnswer(text)));
-                }
-            },
-        };
-        self.add(act, at)
+                };
+                self.set_state(client, State::Idle);
+                self.add(Act::LearnTaken(call, said), at)
+            }
+        }
+    }
+
+    /// A value that the queue held at first.
+    fn base_value(&mut self, client: usize, value: &String, at: At) -> Result<(), Fault>
+        ensures { OnOk result (read_of self.new
+            ≡ with_base_value (read_of self.old) client at (string_bytes value.now)) }
+    {
+        let text = value.clone()?;
+        let call = self.begin(client, Some(text), true, at)?;
+        self.answer(client, call, Answered::Done, at)
     }
 
     /// What the queue held at first: calls of their own, before all others.
-    fn base_line(&mut self, values: Vec<String>, at: At) -> Result<(), Fault> {
-        let client = self.clients.number(String::from_str(self.alloc, "base")?)?;
+    fn base_line(&mut self, values: &[String], at: At) -> Result<(), Fault>
+        ensures { OnOk result (read_of self.new ≡ with_base (read_of self.old) values.now at) }
+    {
+        let client = self.client(String::from_str(self.alloc, "base")?)?;
         for value in values {
-            let call = self.begin(client, Some(value), true, at)?;
-            self.answer(client, call, Answered::Done, at)?;
+            self.base_value(client, value, at)?;
         }
         Ok(())
     }
 
-    /// What was left when all had stopped: a crash, takes that get it, and one that finds nothing.
-    fn final_line(&mut self, values: Vec<String>, at: At) -> Result<(), Fault> {
+    /// A value that was left.
+    fn left_value(&mut self, client: usize, value: &String, at: At) -> Result<(), Fault>
+        ensures { OnOk result (read_of self.new ≡ with_left_value (read_of self.old) client at value.now) }
+    {
+        let text = value.clone()?;
+        let call = self.begin(client, None, false, at)?;
+        self.answer(client, call, Answered::Got(text), at)
+    }
+
+    /// The values that were left when all had stopped: a crash, and takes that get them. The answer is their client.
+    fn left_values(&mut self, values: &[String], at: At) -> Result<usize, Fault>
+        ensures client { IfOk result (λ n. n ≡ number_in (read_of self.old).clients (codes "final")) }
+        ensures read { OnOk result (read_of self.new ≡ with_left (read_of self.old) values.now at) }
+    {
         self.crash(at)?;
-        let client = self.clients.number(String::from_str(self.alloc, "final")?)?;
+        let client = self.client(String::from_str(self.alloc, "final")?)?;
         for value in values {
-            let call = self.begin(client, None, false, at)?;
-            self.answer(client, call, Answered::Got(value), at)?;
+            self.left_value(client, value, at)?;
         }
+        Ok(client)
+    }
+
+    /// What was left when all had stopped, and a take that finds nothing.
+    fn final_line(&mut self, values: &[String], at: At) -> Result<(), Fault>
+        ensures { OnOk result (read_of self.new ≡ with_final (read_of self.old) values.now at) }
+    {
+        let client = self.left_values(values, at)?;
         let call = self.begin(client, None, false, at)?;
         self.answer(client, call, Answered::Empty, at)?;
         self.is_over = true;
@@ -241,7 +404,9 @@ impl Reader {
     }
 
     /// Takes what a line without times says.
-    pub(crate) fn take(&mut self, line: Line, at: At) -> Result<(), Fault> {
+    pub(crate) fn take(&mut self, line: Line, at: At) -> Result<(), Fault>
+        ensures { OnOk result (IsLine (read_of self.old) line at (read_of self.new)) }
+    {
         if self.is_over {
             return Err(Fault::Line(at.line, Why::AfterFinal));
         }
@@ -250,9 +415,9 @@ impl Reader {
                 if self.steps.len() > 0 || at.line > 1 {
                     return Err(Fault::Line(at.line, Why::BaseNotFirst));
                 }
-                self.base_line(values, at)
+                self.base_line(&values, at)
             }
-            Line::Final(values) => self.final_line(values, at),
+            Line::Final(values) => self.final_line(&values, at),
             Line::Begin { client, puts } => self.begin_line(client, puts, at),
             Line::Answer { client, answered } => self.answer_line(client, answered, at),
             Line::Crash => self.crash(at),
@@ -263,7 +428,7 @@ impl Reader {
 
     /// The number of each value among those that are put, as they are put.
     fn ranks(&self) -> Result<Vec<u32>, Fault> {
-        let count = self.values.texts.len();
+        let count = self.values.len();
         let mut ranks = Vec::with_capacity(self.alloc, count)?;
         for _ in 0..count {
             ranks.push(u32::MAX)?;
@@ -290,15 +455,57 @@ impl Reader {
         Ok(ranks)
     }
 
-    pub(crate) fn recording(self) -> Result<Recording, Fault> {
+    /// What was read, as a recording.
+    pub(crate) fn recording(self) -> Result<Recording, Fault>
+        ensures read { IfOk result (λ recording. IsOfRead (read_of self) recording) }
+        ensures distinct { IfOk result (λ recording. AreDistinct recording.ranks.items) }
+    {
         let ranks = self.ranks()?;
+        if !are_distinct(self.alloc, &ranks)? {
+            // There are more values than a rank can count.
+            return Err(Fault::Memory);
+        }
         Ok(Recording {
             calls: self.calls,
             steps: self.steps,
-            clients: self.clients.into_texts(),
-            values: self.values.into_texts(),
+            clients: self.clients,
+            values: self.values,
             times: self.times,
             ranks,
         })
+    }
+}
+
+/// Whether no two of the ranks are the same, and each is less than their number.
+fn are_distinct(alloc: Global, ranks: &[u32]) -> Result<bool, AllocError>
+    ensures { IfOk result (λ yes. IsTrue yes → AreDistinct ranks.now) }
+{
+    let mut seen = vec![in alloc; false; ranks.len()]?;
+    for i in 0..ranks.len() {
+        let rank = ranks[i] as usize;
+        if rank >= seen.len() || seen[rank] {
+            return Ok(false);
+        }
+        seen[rank] = true;
+    }
+    Ok(true)
+}
+
+/// What a client is about once its call was answered, refused or given up.
+fn after_answer(call: usize, answered: &Answered) -> State
+    ensures { result ≡ after_answer call answered.now }
+{
+    match answered {
+        Answered::Unknown => State::GaveUp(call),
+        _ => State::Idle,
+    }
+}
+
+/// What clients are about after a crash.
+fn interrupt(states: &mut [State])
+    ensures { states.new ≡ map crashed states.old }
+{
+    for state in states.iter_mut() {
+        *state = state.crashed();
     }
 }

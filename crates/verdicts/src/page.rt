@@ -239,7 +239,7 @@ impl<'a> Page<'a> {
 
     /// The value of this number, as it is shown.
     fn shown_value(&self, value: usize) -> Result<String, AllocError> {
-        match self.recording.values.get(value) {
+        match self.recording.values.get_index(value) {
             Some(text) => shown(self.alloc, text.as_str()),
             None => Ok(String::new(self.alloc)),
         }
@@ -267,7 +267,7 @@ impl<'a> Page<'a> {
     /// How wide the names of the clients are.
     fn names_width(&self) -> Result<usize, AllocError> {
         let mut longest = 0usize;
-        for json in &self.recording.clients {
+        for json in self.recording.clients.iter() {
             longest = longest.max(shown(self.alloc, json.as_str())?.chars().count());
         }
         Ok(
@@ -491,8 +491,8 @@ impl<'a> Page<'a> {
                 self.picture()?;
                 self.effects(prefix, explanation)
             }
-            Answer::Impossible(prefix, refutation, before) => {
-                self.name_all(prefix, &refutation.witness);
+            Answer::Impossible(prefix, witness, before) => {
+                self.name_all(prefix, witness);
                 self.picture()?;
                 let last = prefix.count.saturating_sub(1);
                 self.effects(&prefix_of(self.alloc, self.recording, last)?, before)?;

@@ -152,13 +152,13 @@ impl<'a> Pen<'a> {
             .get(call)
             .copied()
             .map_or(0, |call| call.client);
-        if let Some(text) = self.recording.clients.get(client) {
+        if let Some(text) = self.recording.clients.get_index(client) {
             self.show(text.as_str());
         }
     }
 
     fn value(&mut self, value: usize) {
-        if let Some(text) = self.recording.values.get(value) {
+        if let Some(text) = self.recording.values.get_index(value) {
             self.show(text.as_str());
         }
     }
@@ -652,12 +652,7 @@ pub fn verdict(
             let entries = explanation.order.entries.as_slice();
             explained(alloc, counts_of(recording, prefix, entries))
         }
-        Answer::Impossible(prefix, refutation, _) => impossible(
-            alloc,
-            recording,
-            prefix,
-            &refutation.witness,
-        ),
+        Answer::Impossible(prefix, witness, _) => impossible(alloc, recording, prefix, witness),
         Answer::Unknown => String::from_str(
             alloc,
             "unknown: no order was found that the checker accepts, and no reason why there is none\n",
