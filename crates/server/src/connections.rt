@@ -1,17 +1,15 @@
 //! Worker threads, each of which serves one connection at a time.
 
-ghost use Rattle.std.specs.Prelude.{◌<◌};
-
 use crate::stopping::Stopping;
 use crossbeam_channel::Receiver;
 use desk::BrokerDesk;
-use devices::{CountedReader, CountedWriter, MAX_FAILURES};
-use engine::{Desk, serve};
+use devices::{CountedReader, CountedWriter};
+use engine::Failure;
 use journal_file::Storage;
 use lasting::{Settling, SharedJournal};
 use log::{Log, warn};
 use seating::Seating;
-use serving::{JsonLines, LastingDesk, StoppingDesk};
+use serving::{LastingDesk, StoppingDesk};
 use std::alloc::Global;
 use std::net::TcpStream;
 use std::sync::Wait;
@@ -35,20 +33,8 @@ pub(crate) struct Serving<'a, J: Naming, S: Desks<J>> {
     pub(crate) connections: &'a Receiver<TcpStream>,
 }
 
-/// Serves a connection at a desk, to its end.
-fn serve_at<D: Desk + Drop, R: Wait + Log>(
-    rt: &R,
-    alloc: Global,
-    desk: D,
-    stopping: &Stopping,
-    connection: &TcpStream,
-)
-    requires { D.failures desk < MAX_FAILURES }
-{
-    let mut reader = CountedReader::new(connection);
-    let mut writer = CountedWriter::new(connection);
-    let mut desk = StoppingDesk::new(desk, stopping.said());
-    let served = serve::<R, JsonLines, _, _, _>(rt, alloc, &mut reader, &mut writer, &mut desk);
+/// Says why a connection ended, where it was not at its end.
+fn ended<R: Log>(rt: &R, served: Result<(), Failure>) {
     if let Err(failure) = served {
         warn!(rt; "a connection ended: {failure}");
     }
@@ -86,10 +72,14 @@ impl<J: Naming> Desks<J> for InMemory {
         sharing: &Sharing<'_, J>,
         connection: &TcpStream,
     ) {
-        match BrokerDesk::new(rt, alloc, sharing.shared, sharing.seats) {
-            Ok(desk) => serve_at(rt, alloc, desk, sharing.stopping, connection),
-            Err(_) => unserved(rt),
-        }
+        let Ok(desk) = BrokerDesk::new(rt, alloc, sharing.shared, sharing.seats) else {
+            return unserved(rt);
+        };
+        let mut desk = StoppingDesk::new(desk, sharing.stopping.said());
+        let mut reader = CountedReader::new(connection);
+        let mut writer = CountedWriter::new(connection);
+        let served = serving::connection(rt, alloc, &mut desk, &mut reader, &mut writer);
+        ended(rt, served);
     }
 
     fn has_failed(&self) -> bool {
@@ -105,10 +95,14 @@ impl<J: Naming + Settling, S: Storage + Drop> Desks<J> for SharedJournal<'_, J, 
         sharing: &Sharing<'_, J>,
         connection: &TcpStream,
     ) {
-        match LastingDesk::new(rt, alloc, sharing.seats, self) {
-            Ok(desk) => serve_at(rt, alloc, desk, sharing.stopping, connection),
-            Err(_) => unserved(rt),
-        }
+        let Ok(desk) = LastingDesk::new(rt, alloc, sharing.seats, self) else {
+            return unserved(rt);
+        };
+        let mut desk = StoppingDesk::new(desk, sharing.stopping.said());
+        let mut reader = CountedReader::new(connection);
+        let mut writer = CountedWriter::new(connection);
+        let served = serving::lasting_connection(rt, alloc, &mut desk, &mut reader, &mut writer);
+        ended(rt, served);
     }
 
     fn has_failed(&self) -> bool {

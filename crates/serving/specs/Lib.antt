@@ -1,3 +1,4 @@
+pub mod Connections
 pub mod Image
 pub mod Journaled
 pub mod Piping
