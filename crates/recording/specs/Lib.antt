@@ -1,3 +1,5 @@
 pub mod Recording
 pub mod Reading
 pub mod Reader
+pub mod Members
+pub mod Lines

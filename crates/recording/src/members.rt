@@ -1,11 +1,19 @@
 //! Lines read from JSON.
 
+ghost use Rattle.std.specs.Prelude.{◌≡◌, true, is_some, false, codes, option_map, string_bytes, IfOk};
+ghost use Rattle.serde_json.specs.Find.{get};
+ghost use Rattle.serde_json.specs.View.{view as data_of};
+ghost use Rattle.recording.specs.Members.{key_in, key_at, reply_of, reply_in, said_of, told_in, tells, call_in};
+ghost use Rattle.recording.specs.Members.{operation_in, rest_in, is_plain, said_in};
+
 use crate::line::{Answered, Line, Moment, Told, Whole};
 use serde_json::Value;
 use std::alloc::{AllocError, Global};
 
 /// The JSON text of a client or a value, which is a text or a whole number.
-fn key(alloc: Global, value: &Value) -> Result<Option<String>, AllocError> {
+fn key(alloc: Global, value: &Value) -> Result<Option<String>, AllocError>
+    ensures { IfOk result (λ key. option_map string_bytes key ≡ key_in (data_of value.now)) }
+{
     if value.is_string() || value.is_u64() || value.is_i64() {
         return Ok(Some(value.to_string(alloc)?));
     }
@@ -13,7 +21,9 @@ fn key(alloc: Global, value: &Value) -> Result<Option<String>, AllocError> {
 }
 
 /// The same of a member.
-fn key_at(alloc: Global, value: &Value, name: &str) -> Result<Option<String>, AllocError> {
+fn key_at(alloc: Global, value: &Value, name: &str) -> Result<Option<String>, AllocError>
+    ensures { IfOk result (λ key. option_map string_bytes key ≡ key_at name.now (data_of value.now)) }
+{
     match value.get(name) {
         Some(member) => key(alloc, member),
         None => Ok(None),
@@ -50,7 +60,9 @@ fn moment(alloc: Global, value: &Value, name: &str) -> Result<Option<Moment>, Al
 }
 
 /// What the reply of a line says.
-fn answered(alloc: Global, value: &Value) -> Result<Option<Answered>, AllocError> {
+fn answered(alloc: Global, value: &Value) -> Result<Option<Answered>, AllocError>
+    ensures { IfOk result (λ answered. option_map reply_of answered ≡ reply_in (data_of value.now)) }
+{
     let Some(reply) = value.get("reply").and_then(Value::as_str) else {
         return Ok(None);
     };
@@ -68,7 +80,10 @@ fn answered(alloc: Global, value: &Value) -> Result<Option<Answered>, AllocError
 }
 
 /// What a line tells of an interrupted call.
-fn told(alloc: Global, value: &Value, client: String) -> Result<Option<Line>, AllocError> {
+fn told(alloc: Global, value: &Value, client: String) -> Result<Option<Line>, AllocError>
+    ensures { IfOk result (λ line. option_map said_of line
+        ≡ option_map (tells (string_bytes client)) (told_in (data_of value.now))) }
+{
     let told = match value.get("told").and_then(Value::as_str) {
         Some("nottaken") => Told::NotTaken,
         Some("taken") => match answered(alloc, value)? {
@@ -115,7 +130,10 @@ fn call(
     value: &Value,
     client: String,
     puts: Option<String>,
-) -> Result<Option<Line>, AllocError> {
+) -> Result<Option<Line>, AllocError>
+    ensures { IfOk result (λ line. is_some (get (codes "from") (data_of value.now)) ≡ false → option_map said_of line
+        ≡ call_in (string_bytes client) (option_map string_bytes puts) (data_of value.now)) }
+{
     if value.get("from").is_some() {
         return whole(alloc, value, client, puts);
     }
@@ -126,7 +144,10 @@ fn call(
 }
 
 /// What a line with an `op` says.
-fn operation(alloc: Global, value: &Value, op: &str) -> Result<Option<Line>, AllocError> {
+fn operation(alloc: Global, value: &Value, op: &str) -> Result<Option<Line>, AllocError>
+    ensures { IfOk result (λ line. is_plain (data_of value.now) ≡ true → option_map said_of line
+        ≡ operation_in op.now (data_of value.now)) }
+{
     if op == "crash" {
         return match (value.get("at").is_some(), moment(alloc, value, "at")?) {
             (false, _) => Ok(Some(Line::Crash)),
@@ -148,7 +169,9 @@ fn operation(alloc: Global, value: &Value, op: &str) -> Result<Option<Line>, All
 }
 
 /// What a line of one client says that begins no call.
-fn rest(alloc: Global, value: &Value) -> Result<Option<Line>, AllocError> {
+fn rest(alloc: Global, value: &Value) -> Result<Option<Line>, AllocError>
+    ensures { IfOk result (λ line. option_map said_of line ≡ rest_in (data_of value.now)) }
+{
     let Some(client) = key_at(alloc, value, "client")? else {
         return Ok(None);
     };
@@ -162,7 +185,10 @@ fn rest(alloc: Global, value: &Value) -> Result<Option<Line>, AllocError> {
 }
 
 /// What an object says, if it is a line.
-pub(crate) fn line(alloc: Global, value: &Value) -> Result<Option<Line>, AllocError> {
+pub(crate) fn line(alloc: Global, value: &Value) -> Result<Option<Line>, AllocError>
+    ensures { IfOk result (λ line. is_plain (data_of value.now) ≡ true → option_map said_of line
+        ≡ said_in (data_of value.now)) }
+{
     if let Some(base) = value.get("base") {
         return Ok(keys(alloc, base)?.map(|keys| Line::Base(keys)));
     }

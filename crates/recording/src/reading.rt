@@ -1,5 +1,8 @@
 //! Reads the lines of a recording.
 
+ghost use Rattle.std.specs.Prelude.{◌≡◌, IfOk, OnOk};
+ghost use Rattle.recording.specs.Lines.{SaysSo, TakesLine, AddsText, has_times, is_final};
+
 use crate::act::Recording;
 use crate::fault::{Fault, Why};
 use crate::line::Line;
@@ -11,7 +14,9 @@ use std::alloc::Global;
 use std::str;
 
 /// What a line says.
-fn said(alloc: Global, bytes: &[u8], number: u32) -> Result<Line, Fault> {
+fn said(alloc: Global, bytes: &[u8], number: u32) -> Result<Line, Fault>
+    ensures { IfOk result (λ line. SaysSo bytes.now line) }
+{
     let Ok(text) = str::from_utf8(bytes) else {
         return Err(Fault::Line(number, Why::NoObject));
     };
@@ -30,12 +35,16 @@ fn said(alloc: Global, bytes: &[u8], number: u32) -> Result<Line, Fault> {
 }
 
 /// Whether a line has times.
-fn has_times(line: &Line) -> bool {
+fn has_times(line: &Line) -> bool
+    ensures { result ≡ has_times line.now }
+{
     matches!(line, Line::Whole(_) | Line::CrashAt(_))
 }
 
 /// Whether a line says what was left.
-fn is_final(line: &Line) -> bool {
+fn is_final(line: &Line) -> bool
+    ensures { result ≡ is_final line.now }
+{
     matches!(line, Line::Final(_))
 }
 
@@ -68,7 +77,10 @@ impl Lines {
         if mixes { Some(Why::TimesAndNone) } else { None }
     }
 
-    fn take(&mut self, said: Line, number: u32) -> Result<(), Fault> {
+    /// Takes what the line of a number says.
+    fn take(&mut self, said: Line, number: u32) -> Result<(), Fault>
+        ensures { OnOk result (TakesLine self.old said number self.new) }
+    {
         if let Some(why) = self.misplaced(&said) {
             return Err(Fault::Line(number, why));
         }
@@ -91,7 +103,9 @@ impl Lines {
     }
 
     /// A line of this text. An empty one says nothing.
-    fn add(&mut self, alloc: Global, text: &[u8], number: u32) -> Result<(), Fault> {
+    fn add(&mut self, alloc: Global, text: &[u8], number: u32) -> Result<(), Fault>
+        ensures { OnOk result (AddsText self.old text.now number self.new) }
+    {
         if text.is_empty() {
             return Ok(());
         }
