@@ -1,17 +1,18 @@
 //! Serving with a journal.
 
-ghost use Rattle.std.specs.Prelude.{IfOk};
+ghost use Rattle.std.specs.Prelude.{◌≡◌, IfOk};
 ghost use Rattle.opening.specs.Sessions.{IsUncalled};
+ghost use Rattle.pqd.specs.Keeping.{GoesOnFrom, GoesOnFromFiles, policy_for};
 
 use crate::{Fault, broker_for, fill_places, listener_at, service_of};
 use devices::{CountedReader, CountedWriter};
-use journal_store::{Found, Store};
+use journal_store::{Folder, Found, Store, SystemFolder};
 use lasting::Policy;
 use log::Log;
 use named::Broker;
 use opening::{reopened, reopened_anew};
 use options::{Journaling as Asked, Listening, Mode, Options, Syncing};
-use server::{Service, net_lasting, pipe_lasting};
+use server::{net_lasting, pipe_lasting};
 use serving::Journaling;
 use std::io;
 use std::net::Net;
@@ -21,7 +22,9 @@ use std::time::Clock;
 use words::Refusal;
 
 /// When the journal is kept that is asked for so.
-fn policy_of(syncing: Syncing) -> Policy {
+fn policy_of(syncing: Syncing) -> Policy
+    ensures { result ≡ policy_for syncing }
+{
     match syncing {
         Syncing::Always => Policy::Always,
         Syncing::EachSecond => Policy::EachSecond,
@@ -30,7 +33,11 @@ fn policy_of(syncing: Syncing) -> Policy {
 }
 
 /// Says that a torn frame is left out, of which the file is kept too.
-fn tell_torn(rt: &HostRuntime, store: &Store<'_>, torn: usize) -> Result<(), Refusal> {
+fn tell_torn<D: Folder + Drop>(
+    rt: &HostRuntime,
+    store: &Store<D>,
+    torn: usize,
+) -> Result<(), Refusal> {
     let kept = match store.keep_torn() {
         Ok(()) => "kept as FILE.torn",
         Err(_) => "not kept",
@@ -45,7 +52,8 @@ fn tell_torn(rt: &HostRuntime, store: &Store<'_>, torn: usize) -> Result<(), Ref
 
 /// The broker that goes on from what the journal left, in fresh records if the options say so.
 fn broker_on(rt: &HostRuntime, asked: &Options<'_>, found: Found) -> Result<Broker, Refusal>
-    ensures { IfOk result IsUncalled }
+    ensures uncalled { IfOk result IsUncalled }
+    ensures words { IfOk result (GoesOnFrom asked.now found.words.items) }
 {
     if asked.renew {
         return reopened_anew(rt.alloc(), asked.clients, asked.records, found.words);
@@ -54,10 +62,15 @@ fn broker_on(rt: &HostRuntime, asked: &Options<'_>, found: Found) -> Result<Brok
 }
 
 /// The broker that goes on from the journal; or, where there is none yet, the one that the options ask for.
-fn broker_from(rt: &HostRuntime, asked: &Options<'_>, store: &Store<'_>) -> Result<Broker, Fault>
-    ensures { IfOk result IsUncalled }
+fn broker_from<D: Folder + Drop>(
+    rt: &HostRuntime,
+    asked: &Options<'_>,
+    store: &Store<D>,
+) -> Result<Broker, Fault>
+    ensures uncalled { IfOk result IsUncalled }
+    ensures found { IfOk result (GoesOnFromFiles asked.now store.now.files) }
 {
-    let Some(found) = store.find()? else {
+    let Some(found) = store.find(rt.alloc())? else {
         return Ok(broker_for(rt, asked)?);
     };
     if found.torn > 0 {
@@ -66,22 +79,28 @@ fn broker_from(rt: &HostRuntime, asked: &Options<'_>, store: &Store<'_>) -> Resu
     Ok(broker_on(rt, asked, found)?)
 }
 
+/// A broker, and the journal that goes on from what it began on.
+#[derive(Drop)]
+struct Kept<D: Folder + Drop> {
+    broker: Broker,
+    journaling: Journaling<Store<D>>,
+}
+
 /// Serves standard input to standard output, with a journal. The image that it leaves.
-fn serve_input<T: Threads + Wait + Clock + Sync>(
+fn serve_input<T: Threads + Wait + Clock + Sync, D: Folder + Drop + Send>(
     threads: &T,
     rt: &HostRuntime,
-    broker: Broker,
-    journaling: Journaling<'_, Store<'_>>,
+    kept: Kept<D>,
 ) -> Result<Vec<u8>, Fault>
-    requires { IsUncalled broker }
+    requires { IsUncalled kept.broker }
 {
     let mut reader = CountedReader::new(rt.reader());
     let mut writer = CountedWriter::new(io::writer(rt));
     let left = pipe_lasting(
         threads,
         rt.alloc(),
-        broker,
-        journaling,
+        kept.broker,
+        kept.journaling,
         &mut reader,
         &mut writer,
     )?;
@@ -89,20 +108,46 @@ fn serve_input<T: Threads + Wait + Clock + Sync>(
 }
 
 /// Serves connections of the loopback, with a journal. The image that it leaves.
-fn serve_connections<T: Threads + Wait + Net + Log + Clock + Sync>(
+fn serve_connections<T: Threads + Wait + Net + Log + Clock + Sync, D: Folder + Drop + Send>(
     threads: &T,
     rt: &HostRuntime,
-    broker: Broker,
-    journaling: Journaling<'_, Store<'_>>,
-    service: Service,
+    asked: &Options<'_>,
+    kept: Kept<D>,
     at: Listening,
 ) -> Result<Vec<u8>, Fault>
-    requires { IsUncalled broker }
+    requires { IsUncalled kept.broker }
 {
     let _places = fill_places(rt);
     let listener = listener_at(rt, at)?;
-    let left = net_lasting(threads, rt.alloc(), broker, service, journaling, &listener)?;
+    let service = service_of(at, asked);
+    let left = net_lasting(
+        threads,
+        rt.alloc(),
+        kept.broker,
+        service,
+        kept.journaling,
+        &listener,
+    )?;
     Ok(left.image)
+}
+
+/// The broker that goes on from the journal of this storage, which is to be kept as it is asked for.
+fn kept_in<D: Folder + Drop>(
+    rt: &HostRuntime,
+    asked: &Options<'_>,
+    store: Store<D>,
+    syncing: Syncing,
+) -> Result<Kept<D>, Fault>
+    ensures uncalled { IfOk result (λ kept. IsUncalled kept.broker) }
+    ensures found { IfOk result (λ kept. GoesOnFromFiles asked.now kept.journaling.storage.files kept.broker) }
+    ensures policy { IfOk result (λ kept. kept.journaling.policy ≡ policy_for syncing) }
+{
+    let broker = broker_from(rt, asked, &store)?;
+    let journaling = Journaling {
+        storage: store,
+        policy: policy_of(syncing),
+    };
+    Ok(Kept { broker, journaling })
 }
 
 /// Serves as the options ask: each change is in the journal before a reply that follows it. The image that it leaves.
@@ -112,16 +157,10 @@ pub(crate) fn serve<T: Threads + Wait + Net + Log + Clock + Sync>(
     asked: &Options<'_>,
     wanted: Asked<'_>,
 ) -> Result<Vec<u8>, Fault> {
-    let store = Store::open(rt, wanted.file)?;
-    let broker = broker_from(rt, asked, &store)?;
-    let journaling = Journaling {
-        storage: &store,
-        policy: policy_of(wanted.syncing),
-    };
+    let store = Store::new(SystemFolder::open(rt, wanted.file)?);
+    let kept = kept_in(rt, asked, store, wanted.syncing)?;
     match asked.mode {
-        Mode::Pipe => serve_input(threads, rt, broker, journaling),
-        Mode::Serve(at) => {
-            serve_connections(threads, rt, broker, journaling, service_of(at, asked), at)
-        }
+        Mode::Pipe => serve_input(threads, rt, kept),
+        Mode::Serve(at) => serve_connections(threads, rt, asked, kept, at),
     }
 }
