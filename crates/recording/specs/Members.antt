@@ -1,9 +1,11 @@
 -- What a line without times says, by its JSON object.
 use Rattle.std.specs.Prelude.{ℕ, ◌||◌, List, Bool, not, codes, Option, Some, None, is_some, option_map}
 use Rattle.std.specs.Prelude.{option_and_then, if◌then◌else◌, string_bytes}
+use Rattle.std.specs.Prelude.{[], ◌∷◌, map, String, Vec}
+use Rattle.std.specs.declared.alloc.Global.{Global}
 use Rattle.std.specs.Str.{bytes_eq}
-use Rattle.serde_json.specs.Data.{Data}
-use Rattle.serde_json.specs.Find.{get, as_str, as_number, as_u64, as_i64}
+use Rattle.serde_json.specs.Data.{Data, Items, no_items, item}
+use Rattle.serde_json.specs.Find.{get, as_str, as_array, as_number, as_u64, as_i64}
 use Rattle.serde_json.specs.Written.{compact_text}
 use Rattle.recording.specs.declared.line.Answered.{Answered}
 use Rattle.recording.specs.declared.line.Answered.TheVariants.{Done, Got, Empty, Refused, Unknown}
@@ -21,6 +23,19 @@ is_key json = is_some (as_str json)
 -- its JSON text, if it is
 abbrev pub key_in : Data → Option (List ℕ)
 key_in json = if is_key json then Some (compact_text json) else None
+
+-- the bytes of texts
+abbrev pub texts_in : Vec (String Global) Global → List (List ℕ)
+texts_in texts = map string_bytes texts.items
+
+-- those of a list, if each of its items has one
+abbrev pub keys_in : Items → Option (List (List ℕ))
+keys_in no_items = Some []
+keys_in (item json items) =
+    option_and_then (λ key. option_map (λ keys. key ∷ keys) (keys_in items)) (key_in json)
+
+abbrev pub keys_at : Data → Option (List (List ℕ))
+keys_at json = option_and_then keys_in (as_array json)
 
 -- the same of a member
 abbrev pub key_at : List ℕ → Data → Option (List ℕ)
@@ -75,13 +90,14 @@ told_in json = option_and_then
     else (if bytes_eq word (codes "taken") then effect_in (reply_in json) else None))
     (text_at (codes "told") json)
 
--- what a line says, by the bytes of its texts; of lines with times, and of those that say what the queue held at first,
--- and at last, no more than that
+-- what a line says, by the bytes of its texts; of lines with times no more than that
 pub data Said : Type 0 where
   begins : List ℕ → Option (List ℕ) → Said
   answers : List ℕ → Reply → Said
   crashes : Said
   tells : List ℕ → Option Reply → Said
+  held : List (List ℕ) → Said
+  left : List (List ℕ) → Said
   others : Said
 
 abbrev pub said_of : Line → Said
@@ -91,13 +107,12 @@ said_of Crash = crashes
 said_of (line_told client told) = tells (string_bytes client) (told_of told)
 said_of (Whole whole) = others
 said_of (CrashAt moment) = others
-said_of (Base values) = others
-said_of (Final values) = others
+said_of (Base values) = held (texts_in values)
+said_of (Final values) = left (texts_in values)
 
--- an object without these keys
+-- an object without times
 abbrev pub is_plain : Data → Bool
-is_plain json = not (is_some (get (codes "base") json) || (is_some (get (codes "final") json)
-    || (is_some (get (codes "from") json) || is_some (get (codes "at") json))))
+is_plain json = not (is_some (get (codes "from") json) || is_some (get (codes "at") json))
 
 -- a call of a client; it has no reply
 abbrev pub call_in : List ℕ → Option (List ℕ) → Data → Option Said
@@ -125,10 +140,19 @@ rest_of client json =
 abbrev pub rest_in : Data → Option Said
 rest_in json = option_and_then (λ client. rest_of client json) (key_at (codes "client") json)
 
--- what an object says that is plain: with `op`, which is a text, or without it
+-- an object without `base` and `final`: with `op`, which is a text, or without it
+abbrev pub deed_with : Option Data → Data → Option Said
+deed_with None json = rest_in json
+deed_with (Some op) json = option_and_then (λ text. operation_in text json) (as_str op)
+
+abbrev pub left_with : Option Data → Data → Option Said
+left_with None json = deed_with (get (codes "op") json) json
+left_with (Some values) json = option_map left (keys_at values)
+
+-- what an object says that is plain
 abbrev pub said_with : Option Data → Data → Option Said
-said_with None json = rest_in json
-said_with (Some op) json = option_and_then (λ text. operation_in text json) (as_str op)
+said_with None json = left_with (get (codes "final") json) json
+said_with (Some values) json = option_map held (keys_at values)
 
 abbrev pub said_in : Data → Option Said
-said_in json = said_with (get (codes "op") json) json
+said_in json = said_with (get (codes "base") json) json

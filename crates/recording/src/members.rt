@@ -2,9 +2,9 @@
 
 ghost use Rattle.std.specs.Prelude.{◌≡◌, true, is_some, false, codes, option_map, string_bytes, IfOk};
 ghost use Rattle.serde_json.specs.Find.{get};
-ghost use Rattle.serde_json.specs.View.{view as data_of};
-ghost use Rattle.recording.specs.Members.{key_in, key_at, reply_of, reply_in, said_of, told_in, tells, call_in};
-ghost use Rattle.recording.specs.Members.{operation_in, rest_in, is_plain, said_in};
+ghost use Rattle.serde_json.specs.View.{view as data_of, items_view};
+ghost use Rattle.recording.specs.Members.{key_in, keys_in, keys_at, texts_in, key_at, reply_of, reply_in, said_of};
+ghost use Rattle.recording.specs.Members.{told_in, tells, call_in, operation_in, rest_in, is_plain, said_in};
 
 use crate::line::{Answered, Line, Moment, Told, Whole};
 use serde_json::Value;
@@ -30,19 +30,28 @@ fn key_at(alloc: Global, value: &Value, name: &str) -> Result<Option<String>, Al
     }
 }
 
-/// The keys of a list.
-fn keys(alloc: Global, value: &Value) -> Result<Option<Vec<String>>, AllocError> {
-    let Some(members) = value.as_array() else {
-        return Ok(None);
-    };
+/// The keys of a list's items, if each has one.
+fn keys_of(alloc: Global, members: &[Value]) -> Result<Option<Vec<String>>, AllocError>
+    ensures { IfOk result (λ keys. option_map texts_in keys ≡ keys_in (items_view members.now)) }
+{
     let mut keys = Vec::new(alloc);
     for member in members {
-        let Some(text) = key(alloc, member)? else {
-            return Ok(None);
-        };
-        keys.push(text)?;
+        match key(alloc, member)? {
+            Some(text) => keys.push(text)?,
+            None => return Ok(None),
+        }
     }
     Ok(Some(keys))
+}
+
+/// The keys of a list.
+fn keys(alloc: Global, value: &Value) -> Result<Option<Vec<String>>, AllocError>
+    ensures { IfOk result (λ keys. option_map texts_in keys ≡ keys_at (data_of value.now)) }
+{
+    match value.as_array() {
+        Some(members) => keys_of(alloc, members),
+        None => Ok(None),
+    }
 }
 
 /// The moment at a member.
