@@ -303,7 +303,7 @@ fn a_storage_that_failed_once_goes_on_anew(rt: HostRuntime) -> Result<(), Fail> 
 /// A whole story is judged, of which a compaction failed at this call, and the next one did not.
 fn judge_compaction<R: Abort + AllocGlobal>(rt: &R, after: usize) -> Result<(), Fail> {
     let failing = Failing {
-        after: CALLS + after,
+        after: after.saturating_add(CALLS),
         calls: 1,
         part: 20,
     };
