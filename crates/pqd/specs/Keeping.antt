@@ -1,7 +1,7 @@
 -- What a broker with a journal begins on, and when the journal is kept.
 use Rattle.std.specs.Prelude.{◌≡◌, ℕ, ⊤, Bool, true, false, List, Option, Some, None, IfSome}
 use Rattle.persist.specs.Memory.{words_at_rest}
-use Rattle.named.specs.Brokers.{Brokered, Counts, counts_of}
+use Rattle.named.specs.Brokers.{Brokered, counts_of}
 use Rattle.opening.specs.Opening.{IsOpened, IsReopenedAnew}
 use Rattle.journal_store.specs.Folder.{File, Files, bytes_of}
 use Rattle.journal_store.specs.Found.{IsFoundIn}
@@ -18,14 +18,14 @@ policy_for syncing.Always = policy.Always
 policy_for syncing.EachSecond = policy.EachSecond
 policy_for syncing.Never = policy.Never
 
--- the broker goes on from these words, in fresh records of these counts or not
-abbrev pub GoesOnAnew : Bool → Counts → List ℕ → Brokered → Type 0
-GoesOnAnew false counts words b = IsOpened (words_at_rest words) b
-GoesOnAnew true counts words b = IsReopenedAnew words counts b
+-- the broker goes on from these words, in fresh records of the counts that are asked for, or not
+abbrev pub GoesOnAnew : Bool → Options → List ℕ → Brokered → Type 0
+GoesOnAnew false asked words b = IsOpened (words_at_rest words) b
+GoesOnAnew true asked words b = IsReopenedAnew words (counts_of asked.clients asked.records) b
 
 -- it goes on from these words, as it is asked to
 abbrev pub GoesOnFrom : Options → List ℕ → Brokered → Type 0
-GoesOnFrom asked words b = GoesOnAnew asked.renew (counts_of asked.clients asked.records) words b
+GoesOnFrom asked words b = GoesOnAnew asked.renew asked words b
 
 -- it goes on from the words of the journal in this file, if there is one
 abbrev pub GoesOnFromFile : Options → Option File → Brokered → Type 0
