@@ -64,7 +64,8 @@ bad_option "unexpected argument '--port' found" 'pqd pipe [OPTIONS]' pipe --port
 bad_option "unexpected argument '--workers' found" 'pqd pipe [OPTIONS]' pipe --workers 1
 bad_option "unexpected argument '--clint' found"$'\n\n  tip: '"a similar argument exists: '--clients'" \
     'pqd pipe --clients <T>' pipe --clint 4
-for option in 'clients <T>' 'records <K>' 'image <FILE>' 'journal <FILE>' 'sync <WHEN>' 'port <P>' 'workers <N>'; do
+for option in 'clients <T>' 'records <K>' 'image <FILE>' 'journal <FILE>' 'sync <WHEN>' 'listen <ADDRESS>' 'port <P>' \
+    'workers <N>'; do
     bad_option "a value is required for '--$option' but none was supplied" '' serve "--${option%% *}"
     bad_option "the argument '--$option' cannot be used multiple times" 'pqd serve [OPTIONS]' \
         serve "--${option%% *}" 1 "--${option%% *}" 1
@@ -86,6 +87,9 @@ bad_option "the option '--clients' takes a whole number from 1 to 16" 'pqd <COMM
 bad_option "the option '--records' takes a whole number from 1 to 4096" 'pqd <COMMAND>' pipe --records 5000
 for when in '' secondly Always 1; do
     bad_option "the option '--sync' takes always, second or never" 'pqd <COMMAND>' serve --journal tests "--sync=$when"
+done
+for address in '' localhost 127.0.0 127.0.0.256 ::g 1; do
+    bad_option "the option '--listen' takes an IPv4 or an IPv6 address" 'pqd <COMMAND>' serve "--listen=$address"
 done
 bad_option "the option '--sync' goes with '--journal'" 'pqd <COMMAND>' pipe --sync always
 # One comes before the image is looked at, which comes before listening.
@@ -337,8 +341,9 @@ status=0
 failing_output 'help to a full output' "$status"
 
 # Begins to serve with these options, and waits for the line that says at which port: at that which is asked for, or at
-# one that the system chooses.
+# one that the system chooses; and at which address.
 asked=0
+address=127.0.0.1
 serve() {
     : > "$work/said"
     "$pqd" serve --port="$asked" "$@" < /dev/null > "$work/said" 2> "$work/warned" &
@@ -346,10 +351,10 @@ serve() {
     port=
     for ((turn = 0; turn < 1000 && ${#port} == 0; turn++)); do
         sleep 0.01
-        port=$(sed -n 's/^listening 127\.0\.0\.1:\([1-9][0-9]*\)$/\1/p' "$work/said")
+        port=$(sed -n "s/^listening ${address//./\\.}:\([1-9][0-9]*\)\$/\1/p" "$work/said")
     done
     [ -n "$port" ] || judge "serve $*" 'it does not say where it listens'
-    printf 'listening 127.0.0.1:%s\n' "$port" > "$work/listening"
+    printf 'listening %s:%s\n' "$address" "$port" > "$work/listening"
 }
 
 # Waits for the end of serving, for ten seconds at most; it is to be of this status, with this file of standard error:
@@ -465,6 +470,20 @@ over_connection first-run
 stop
 ends 'serve broken connections' 0 "$work/warned"
 [ "$(wc -l < "$work/warned")" -le 40 ] || judge 'broken connections' 'more than a line for each on standard error'
+
+# Another address is asked for. Where others than this machine reach it, the start says so.
+address=127.0.0.2
+serve --listen 127.0.0.2
+exec 3<> "/dev/tcp/127.0.0.2/$port"
+printf '{"op":"stop"}\n' >&3
+exec 3>&-
+ends 'serve another loopback' 0 /dev/null
+address=0.0.0.0
+serve --listen 0.0.0.0
+printf 'pqd: whoever reaches 0.0.0.0:%s is served: there is no password\n' "$port" > "$work/everyone"
+stop
+ends 'serve every address' 0 "$work/everyone"
+address=127.0.0.1
 
 # A port that is in use, and an image that cannot be begun on, which is found first.
 serve

@@ -164,7 +164,8 @@ const PIPE: DescribedCommand<'static> = DescribedCommand {
     ],
 };
 
-/// `serve [--clients T] [--records K] [--image FILE] [--journal FILE [--sync WHEN]] [--renew] [--port P] [--workers N]`
+/// `serve [--clients T] [--records K] [--image FILE] [--journal FILE [--sync WHEN]] [--renew] [--listen ADDRESS] [--port P]
+/// [--workers N]`
 const SERVE: DescribedCommand<'static> = DescribedCommand {
     name: "serve",
     about: "Answers the requests of connections to a port",
@@ -180,6 +181,11 @@ const SERVE: DescribedCommand<'static> = DescribedCommand {
         },
         JOURNAL,
         SYNC,
+        Described {
+            name: "listen",
+            form: Form::Option("ADDRESS"),
+            help: "The address, where 0.0.0.0 is every one of IPv4 [default: 127.0.0.1]",
+        },
         Described {
             name: "port",
             form: Form::Option("P"),

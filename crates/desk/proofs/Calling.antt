@@ -11,12 +11,12 @@ use Rattle.session.specs.Sessions.{Sessioned}
 use Rattle.wire.specs.declared.answer.Answer.{Answer}
 use Rattle.wire.specs.declared.answer.Answer.TheVariants.{Refused, Told as told_answer}
 use Rattle.workers.specs.Moments.{GoesOnLater}
-use Rattle.workers.proofs.Facts.{later_itself, later_still}
+use Rattle.workers.proofs.Facts.{between_at, between_since, between_weaker, later_itself, later_still}
 use Rattle.desk.specs.Answering.{IsCallAnswer, IsCalledBetween, IsCalledOf, IsTellingIn, IsToldOf, OfClient, Says, answer_as}
+use Rattle.desk.specs.Answering.{IsWhyUnrenewed}
 use Rattle.desk.specs.Requests.{is_no_room}
 use Rattle.desk.specs.declared.calls.Asked.{Asked}
-use Rattle.desk.proofs.Settling.{room_refused}
-use Rattle.desk.proofs.Turns.{between_at, between_since, between_weaker}
+use Rattle.desk.proofs.Settling.{call_since, room_refused}
 
 -- a client that there is has a number below theirs, and one that there is not has none
 pub below : {A : Type 0} (clients number : ℕ) (o : Option A) (client : A) → o ≡ Some client
@@ -39,18 +39,19 @@ module _ (clients number : ℕ) (client : Client) (is : client.0 ≡ number) (fe
   told_of b queue result telling =
       inr (few, subst (λ (k : Client). IsTellingIn b k queue result) (ap client_of is) telling)
 
-  of_number : (first s : Sessioned) (asked : Asked) (answer : Answer) → IsCallAnswer first s client asked answer
-      → OfClient clients number answer (λ c. IsCallAnswer first s c asked answer)
-  of_number first s asked answer call =
-      inr (few, subst (λ (k : Client). IsCallAnswer first s k asked answer) (ap client_of is) call)
+  of_number : (first before s : Sessioned) (asked : Asked) (answer : Answer)
+      → IsCallAnswer first before s client asked answer
+      → OfClient clients number answer (λ c. IsCallAnswer first before s c asked answer)
+  of_number first before s asked answer call =
+      inr (few, subst (λ (k : Client). IsCallAnswer first before s k asked answer) (ap client_of is) call)
 
   -- at the mark behind it
   pub called_at : (first before now : Sessioned) (asked : Option Asked) (answer : Answer)
-      → IfSome asked (λ a. IsCallAnswer first now client a answer) → GoesOnLater before now
+      → IfSome asked (λ a. IsCallAnswer first before now client a answer) → GoesOnLater before now
       → IsCalledOf clients first before now number asked answer
   called_at first before now None answer call later = tt
   called_at first before now (Some asked) answer call later =
-      between_at before now later (of_number first now asked answer call)
+      between_at before now later (of_number first before now asked answer call)
 
   -- or between
   pub called_between : (first earlier before now : Sessioned) (asked : Option Asked) (answer : Answer)
@@ -59,7 +60,8 @@ module _ (clients number : ℕ) (client : Client) (is : client.0 ≡ number) (fe
   called_between first earlier before now None answer on call = tt
   called_between first earlier before now (Some asked) answer on call =
       between_since earlier before now on
-      (between_weaker before now (λ s one. of_number first s asked answer one) call)
+      (between_weaker before now
+      (λ s one. of_number first earlier s asked answer (call_since first earlier before s client asked answer on one)) call)
 
 -- where there is no such client
 pub called_of_none : (clients number : ℕ) (first now : Sessioned) (asked : Option Asked) → clients ≤ number
@@ -69,22 +71,32 @@ called_of_none clients number first now (Some asked) many = between_at now now (
 
 -- of a client that there is
 pub called_here : (first before now : Sessioned) (client : Client) (asked : Option Asked) (answer : Answer)
-    → IfSome asked (λ a. IsCallAnswer first now client a answer) → GoesOnLater before now
+    → IfSome asked (λ a. IsCallAnswer first before now client a answer) → GoesOnLater before now
     → IsCalledBetween first before now client asked answer
 called_here first before now client None answer call later = tt
 called_here first before now client (Some asked) answer call later = between_at before now later call
 
 -- a call that found no room, and whose queue could not begin in fresh records
 pub called_without_room : (first before now then : Sessioned) (client : Client) (asked : Option Asked) (answer : Answer)
-    (refusal : Refusal) → IfSome asked (λ a. IsCallAnswer first now client a answer) → is_no_room answer ≡ true
-    → GoesOnLater before now → GoesOnLater now then → IsCalledBetween first before then client asked (Refused refusal)
-called_without_room first before now then client None answer refusal call none earlier later = tt
-called_without_room first before now then client (Some asked) answer refusal call none earlier later = record {
+    (refusal : Refusal) → IfSome asked (λ a. IsCallAnswer first before now client a answer) → is_no_room answer ≡ true
+    → IsWhyUnrenewed refusal → GoesOnLater before now → GoesOnLater now then
+    → IsCalledBetween first before then client asked (Refused refusal)
+called_without_room first before now then client None answer refusal call none why earlier later = tt
+called_without_room first before now then client (Some asked) answer refusal call none why earlier later = record {
   session = now;
   earlier = earlier;
   later = later;
-  is = room_refused first now client asked answer refusal call none;
+  is = room_refused first before now client asked answer refusal call none why;
 }
+
+-- one that was made once more, behind a later mark
+pub called_again : (first before marked now : Sessioned) (client : Client) (asked : Option Asked) (answer : Answer)
+    → IfSome asked (λ a. IsCallAnswer first marked now client a answer) → GoesOnLater before marked
+    → GoesOnLater marked now → IsCalledBetween first before now client asked answer
+called_again first before marked now client None answer call earlier later = tt
+called_again first before marked now client (Some asked) answer call earlier later =
+    between_at before now (later_still before marked now earlier later)
+    (call_since first before marked now client asked answer earlier call)
 
 -- what is told of what a client was last told
 pub told_on_wire : (clients : ℕ) (b : Brokered) (number : ℕ) (queue : Option (List ℕ)) (result : Result Told Refusal)

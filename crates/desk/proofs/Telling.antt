@@ -62,32 +62,32 @@ has_last list asked reply last = record {
   end = last.ended;
 }
 
-replied_call : (first s now : Sessioned) (client : Client) (asked : Asked) (answer : WireAnswer)
-    → IsCallAnswer first s client asked answer → GoesOnLater s now → IsRepliedIf first now client (Some asked) answer
-replied_call first s now client asked (Reply reply) made later = record {
+replied_call : (first before s now : Sessioned) (client : Client) (asked : Asked) (answer : WireAnswer)
+    → IsCallAnswer first before s client asked answer → GoesOnLater s now → IsRepliedIf first now client (Some asked) answer
+replied_call first before s now client asked (Reply reply) made later = record {
   list = made.list;
   has = has_last made.list asked reply made.last;
   session = s;
   marked = made.marked;
   later = later;
 }
-replied_call first s now client asked _ made later = tt
+replied_call first before s now client asked _ made later = tt
 
-replied_of : (clients number : ℕ) (first s now : Sessioned) (asked : Asked) (answer : WireAnswer)
-    → OfClient clients number answer (λ c. IsCallAnswer first s c asked answer) → GoesOnLater s now
+replied_of : (clients number : ℕ) (first before s now : Sessioned) (asked : Asked) (answer : WireAnswer)
+    → OfClient clients number answer (λ c. IsCallAnswer first before s c asked answer) → GoesOnLater s now
     → IsRepliedIf first now (record { 0 = number }) (Some asked) answer
-replied_of clients number first s now asked answer (inl none) later =
+replied_of clients number first before s now asked answer (inl none) later =
     subst (λ (a : WireAnswer). IsRepliedIf first now (record { 0 = number }) (Some asked) a) (sym none.1) tt
-replied_of clients number first s now asked answer (inr some) later =
-    replied_call first s now (record { 0 = number }) asked answer some.1 later
+replied_of clients number first before s now asked answer (inr some) later =
+    replied_call first before s now (record { 0 = number }) asked answer some.1 later
 
-replied_at : (clients : ℕ) (first s now : Sessioned) (request : Request) (answer : WireAnswer)
-    → IsAnsweredAt clients first s request answer → GoesOnLater s now → IsRepliedTo first now request answer
-replied_at clients first s now (Put client queue value number) answer is later =
-    replied_of clients client first s now _ answer is later
-replied_at clients first s now (Take client queue number) answer is later =
-    replied_of clients client first s now _ answer is later
-replied_at clients first s now _ answer is later = tt
+replied_at : (clients : ℕ) (first before s now : Sessioned) (request : Request) (answer : WireAnswer)
+    → IsAnsweredAt clients first before s request answer → GoesOnLater s now → IsRepliedTo first now request answer
+replied_at clients first before s now (Put client queue value number) answer is later =
+    replied_of clients client first before s now _ answer is later
+replied_at clients first before s now (Take client queue number) answer is later =
+    replied_of clients client first before s now _ answer is later
+replied_at clients first before s now _ answer is later = tt
 
 pub replied_in_turn : (clients : ℕ) (first start now : Sessioned) (served : List (Request × WireAnswer))
     → AreAnsweredInTurn clients first start served now → AreReplied first now served
@@ -99,4 +99,4 @@ replied_in_turn clients first start now served
     told_push first now old request answer
     (all_later_told first before now old (replied_in_turn clients first start before old turn)
     (later_still before is.session now is.earlier is.later))
-    (replied_at clients first is.session now request answer is.is is.later)
+    (replied_at clients first before is.session now request answer is.is is.later)

@@ -5,43 +5,10 @@ use Rattle.session.specs.Sessions.{Sessioned}
 use Rattle.wire.specs.declared.answer.Answer.{Answer}
 use Rattle.wire.specs.declared.request.Request.{Request}
 use Rattle.workers.specs.Moments.{GoesOnLater}
-use Rattle.workers.proofs.Facts.{later_itself, later_still}
 use Rattle.chronicle.specs.Chronicled.{Chronicled, entries}
-use Rattle.desk.specs.Answering.{AreAnsweredInTurn, IsAnsweredAtMark, IsBetween, IsServedAtMark, IsServedInTurn}
+use Rattle.desk.specs.Answering.{AreAnsweredInTurn, IsAnsweredAtMark, IsServedAtMark, IsServedInTurn}
 use Rattle.desk.specs.Answering.AreAnsweredInTurn.{answered, marked as marked_later, nothing}
 use Rattle.desk.specs.Serving.{Desked, IsDesked}
-
--- the session that is marked behind an answer says so
-pub between_at : {P : Sessioned → Type 0} (before now : Sessioned) → GoesOnLater before now → P now → IsBetween before now P
-between_at before now later is = record { session = now; earlier = later; later = later_itself now; is = is }
-
--- one between does, and others are marked before and behind
-pub between_further : {P : Sessioned → Type 0} (before now then : Sessioned) → IsBetween before now P
-    → GoesOnLater now then → IsBetween before then P
-between_further before now then between on = record {
-  session = between.session;
-  earlier = between.earlier;
-  later = later_still between.session now then between.later on;
-  is = between.is;
-}
-
-pub between_since : {P : Sessioned → Type 0} (earlier before now : Sessioned) → GoesOnLater earlier before
-    → IsBetween before now P → IsBetween earlier now P
-between_since earlier before now on between = record {
-  session = between.session;
-  earlier = later_still earlier before between.session on between.earlier;
-  later = between.later;
-  is = between.is;
-}
-
-pub between_weaker : {P Q : Sessioned → Type 0} (before now : Sessioned) → ((s : Sessioned) → P s → Q s)
-    → IsBetween before now P → IsBetween before now Q
-between_weaker before now weaker between = record {
-  session = between.session;
-  earlier = between.earlier;
-  later = between.later;
-  is = weaker between.session between.is;
-}
 
 -- a session is marked
 pub is_marked : (clients : ℕ) (first : Sessioned) (served : List (Request × Answer)) (marked : Option Sessioned)

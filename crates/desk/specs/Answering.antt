@@ -13,9 +13,10 @@ use Rattle.wire.specs.declared.answer.Answer.TheVariants.{Crashed, Created as cr
 use Rattle.wire.specs.declared.request.Request.{Request}
 use Rattle.wire.specs.declared.request.Request.TheVariants.{Create, Crash, List as list_request, Put, Recover, Stop, Take, Told as told_request}
 use Rattle.workers.specs.Marks.{IsMarkedBy}
-use Rattle.workers.specs.Moments.{GoesOnLater}
+use Rattle.workers.specs.Moments.{GoesOnLater, IsBetween}
 use Rattle.workers.specs.Recovered.{is_ready_by, IsRecoveryRefusal}
-use Rattle.workers.specs.Seen.{IsCreationAt, IsListing, IsRefusedAt, IsTelling}
+use Rattle.workers.specs.Seen.{HadCalled, HasStoppedSince, IfCreationBegun, IsCreationAt, IsListing, IsRefusedAt, IsTelling}
+use Rattle.workers.specs.Seen.{MightBeCreated, WasDown}
 use Rattle.workers.specs.declared.entry.End.{End}
 use Rattle.workers.specs.declared.entry.End.TheVariants.{Answered, Interrupted, Open}
 use Rattle.workers.specs.declared.entry.Entry.{Entry}
@@ -50,31 +51,42 @@ pub record IsLastCall (list : List Entry) (asked : Asked) (end : End) : Type 0 w
   pub call : asked.call ≡ entry.call
   pub ended : entry.end ≡ end
 
--- the histories of the session have that call as the client's last one
-pub record IsCallMade (first s : Sessioned) (client : Client) (asked : Asked) (end : End) : Type 0 where
+-- The histories of the session have that call as the client's last one. Behind the session that was marked before, the
+-- histories had the same calls without it: so it was made for this answer
+pub record IsCallMade (first before s : Sessioned) (client : Client) (asked : Asked) (end : End) : Type 0 where
   pub list : List Entry
   pub last : IsLastCall list asked end
   pub marked : IsMarkedBy first client list s
+  pub since : HadCalled first client last.before before s
 
 -- the session refuses that call, in the queue of its name, or of none
 abbrev pub IsRefusedIn : Sessioned → Client → Asked → Option (List ℕ) → Refusal → Type 0
 IsRefusedIn s client asked (Some name) refusal = IsRefusedAt s client (call_in name asked) refusal
 IsRefusedIn s client asked None refusal = IsWhyNameless s.broker refusal
 
+-- why a queue may not begin in fresh records
+abbrev pub IsWhyUnrenewed : Refusal → Type 0
+IsWhyUnrenewed NotReady = Unit {0}
+IsWhyUnrenewed NoQueue = Unit {0}
+IsWhyUnrenewed Busy = Unit {0}
+IsWhyUnrenewed NoRoom = Unit {0}
+IsWhyUnrenewed NoMemory = Unit {0}
+IsWhyUnrenewed _ = ⊥
+
 -- Why a call is refused: the session refuses it so. Or it refuses it for want of room, and its queue could not begin in
 -- fresh records for this reason. Or another call of the client is under way (Busy), or there is no memory
 abbrev pub IsWhyUncalled : Sessioned → Client → Asked → Refusal → Type 0
 IsWhyUncalled s client asked refusal =
     (refusal ≡ Busy) ⊎ (refusal ≡ NoMemory) ⊎ IsRefusedIn s client asked asked.queue refusal
-    ⊎ IsRefusedIn s client asked asked.queue NoRoom
+    ⊎ (IsWhyUnrenewed refusal × IsRefusedIn s client asked asked.queue NoRoom)
 
 -- what a call is answered
-abbrev pub IsCallAnswer : Sessioned → Sessioned → Client → Asked → Answer → Type 0
-IsCallAnswer first s client asked (Reply reply) = IsCallMade first s client asked (Answered reply)
-IsCallAnswer first s client asked interrupted_answer = IsCallMade first s client asked Interrupted
-IsCallAnswer first s client asked Unfinished = IsCallMade first s client asked Open
-IsCallAnswer first s client asked (Refused refusal) = IsWhyUncalled s client asked refusal
-IsCallAnswer first s client asked _ = ⊥
+abbrev pub IsCallAnswer : Sessioned → Sessioned → Sessioned → Client → Asked → Answer → Type 0
+IsCallAnswer first before s client asked (Reply reply) = IsCallMade first before s client asked (Answered reply)
+IsCallAnswer first before s client asked interrupted_answer = IsCallMade first before s client asked Interrupted
+IsCallAnswer first before s client asked Unfinished = IsCallMade first before s client asked Open
+IsCallAnswer first before s client asked (Refused refusal) = IsWhyUncalled s client asked refusal
+IsCallAnswer first before s client asked _ = ⊥
 
 -- where there are so many clients: there is none of this number, or this is so of it
 abbrev pub OfClient : ℕ → ℕ → Answer → (Client → Type 0) → Type 0
@@ -99,64 +111,61 @@ creation_on_wire (created_queue slot) = created_answer slot
 creation_on_wire (creation_refused refusal) = Refused refusal
 creation_on_wire creation_interrupted = interrupted_answer
 
-pub record SaysOfCreation (b : Brokered) (queue : Queue) (answer : Answer) : Type 0 where
+-- what became of it; where it had begun, no queue had the name yet, behind the session that was marked before
+pub record SaysOfCreation (before s : Sessioned) (queue : Queue) (answer : Answer) : Type 0 where
   pub created : Created
   pub is : answer ≡ creation_on_wire created
-  pub at : IsCreationAt b queue created
+  pub at : IsCreationAt s.broker queue created
+  pub since : IfCreationBegun created (MightBeCreated before s queue.name)
 
-abbrev pub IsCreationAnswer : Brokered → Option (List ℕ) → (List ℕ → Queue) → Answer → Type 0
-IsCreationAnswer b (Some name) queue answer = SaysOfCreation b (queue name) answer
-IsCreationAnswer b None queue answer = answer ≡ Refused BadName
+abbrev pub IsCreationAnswer : Sessioned → Sessioned → Option (List ℕ) → (List ℕ → Queue) → Answer → Type 0
+IsCreationAnswer before s (Some name) queue answer = SaysOfCreation before s (queue name) answer
+IsCreationAnswer before s None queue answer = answer ≡ Refused BadName
 
--- a crash leaves the broker down; it is refused for want of memory alone
-pub record IsCrashAt (b : Brokered) (result : Result Unit Refusal) : Type 0 where
-  pub down : OnOk result (IsSome b.recovery)
+-- a crash stops the broker; it is refused for want of memory alone
+pub record IsCrashAt (before s : Sessioned) (result : Result Unit Refusal) : Type 0 where
+  pub stopped : OnOk result (HasStoppedSince before s)
   pub errors : IfErr result (λ refusal. refusal ≡ NoMemory)
 
--- a recovery leaves it ready, or finds it so
-pub record IsRecoveryAt (b : Brokered) (result : Result Unit Refusal) : Type 0 where
-  pub ready : is_ready_by result ≡ true → b.recovery ≡ None
+-- a recovery leaves it ready where it was down, or finds it so
+pub record IsRecoveryAt (before s : Sessioned) (result : Result Unit Refusal) : Type 0 where
+  pub ready : is_ready_by result ≡ true → s.broker.recovery ≡ None
+  pub down : OnOk result (WasDown before s)
   pub errors : IfErr result IsRecoveryRefusal
 
 -- The session says so of this answer to a request, where there are so many clients, and the session was the first one
--- when the seats were given
-abbrev pub IsAnsweredAt : ℕ → Sessioned → Sessioned → Request → Answer → Type 0
-IsAnsweredAt clients first s (Create queue kind) answer =
-    IsCreationAnswer s.broker queue (λ name. record { name = name; kind = kind }) answer
-IsAnsweredAt clients first s list_request answer = Says Queues answer (IsListing s.broker)
-IsAnsweredAt clients first s (Put client queue value number) answer =
+-- when the seats were given. What the answer says was done was done behind the session that was marked before
+abbrev pub IsAnsweredAt : ℕ → Sessioned → Sessioned → Sessioned → Request → Answer → Type 0
+IsAnsweredAt clients first before s (Create queue kind) answer =
+    IsCreationAnswer before s queue (λ name. record { name = name; kind = kind }) answer
+IsAnsweredAt clients first before s list_request answer = Says Queues answer (IsListing s.broker)
+IsAnsweredAt clients first before s (Put client queue value number) answer =
     OfClient clients client answer
-    (λ c. IsCallAnswer first s c (record { queue = queue; number = number; call = Enq value }) answer)
-IsAnsweredAt clients first s (Take client queue number) answer =
+    (λ c. IsCallAnswer first before s c (record { queue = queue; number = number; call = Enq value }) answer)
+IsAnsweredAt clients first before s (Take client queue number) answer =
     OfClient clients client answer
-    (λ c. IsCallAnswer first s c (record { queue = queue; number = number; call = Deq }) answer)
-IsAnsweredAt clients first s (told_request client queue) answer =
+    (λ c. IsCallAnswer first before s c (record { queue = queue; number = number; call = Deq }) answer)
+IsAnsweredAt clients first before s (told_request client queue) answer =
     OfClient clients client answer (λ c. Says told_answer answer (IsTellingIn s.broker c queue))
-IsAnsweredAt clients first s Crash answer = Says (λ done. Crashed) answer (IsCrashAt s.broker)
-IsAnsweredAt clients first s Recover answer = Says (λ done. Ready) answer (IsRecoveryAt s.broker)
-IsAnsweredAt clients first s Stop answer = answer ≡ Stopping
+IsAnsweredAt clients first before s Crash answer = Says (λ done. Crashed) answer (IsCrashAt before s)
+IsAnsweredAt clients first before s Recover answer = Says (λ done. Ready) answer (IsRecoveryAt before s)
+IsAnsweredAt clients first before s Stop answer = answer ≡ Stopping
 
 -- so it is of a session between these
-pub record IsBetween (before now : Sessioned) (IsSo : Sessioned → Type 0) : Type 0 where
-  pub session : Sessioned
-  pub earlier : GoesOnLater before session
-  pub later : GoesOnLater session now
-  pub is : IsSo session
-
 abbrev pub IsAnsweredBetween : ℕ → Sessioned → Sessioned → Sessioned → Request → Answer → Type 0
 IsAnsweredBetween clients first before now request answer =
-    IsBetween before now (λ s. IsAnsweredAt clients first s request answer)
+    IsBetween before now (λ s. IsAnsweredAt clients first before s request answer)
 
 -- so it is of a put or a take
 abbrev pub IsCalledBetween : Sessioned → Sessioned → Sessioned → Client → Option Asked → Answer → Type 0
 IsCalledBetween first before now client (Some asked) answer =
-    IsBetween before now (λ s. IsCallAnswer first s client asked answer)
+    IsBetween before now (λ s. IsCallAnswer first before s client asked answer)
 IsCalledBetween first before now client None answer = Unit {0}
 
 -- and of a client of this number, if there is one
 abbrev pub IsCalledOf : ℕ → Sessioned → Sessioned → Sessioned → ℕ → Option Asked → Answer → Type 0
 IsCalledOf clients first before now number (Some asked) answer =
-    IsBetween before now (λ s. OfClient clients number answer (λ c. IsCallAnswer first s c asked answer))
+    IsBetween before now (λ s. OfClient clients number answer (λ c. IsCallAnswer first before s c asked answer))
 IsCalledOf clients first before now number None answer = Unit {0}
 
 -- Requests are answered in turn: each by what the session was at a moment behind that of the answer before, up to the

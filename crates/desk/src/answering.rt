@@ -57,7 +57,7 @@ impl<J: Naming> Counter<'_, J> {
         queue: Option<Name>,
         kind: Kind,
     ) -> (Marked<J>, Answer)
-        ensures is { IsCreationAnswer result.0.broker queue (λ name. record { name = name; kind = kind }) result.1 }
+        ensures is { IsCreationAnswer before result.0 queue (λ name. record { name = name; kind = kind }) result.1 }
         ensures later { GoesOnLater before result.0 }
     {
         let _work = self.seats.at_work(rt);
@@ -111,7 +111,7 @@ impl<J: Naming> Counter<'_, J> {
 
     /// The whole system stops.
     fn crash<R: Wait>(&self, rt: &R, before: Marked<J>) -> (Marked<J>, Answer)
-        ensures is { Says (λ done. Crashed) result.1 (IsCrashAt result.0.broker) }
+        ensures is { Says (λ done. Crashed) result.1 (IsCrashAt before result.0) }
         ensures later { GoesOnLater before result.0 }
     {
         let _work = self.seats.at_work(rt);
@@ -121,7 +121,7 @@ impl<J: Naming> Counter<'_, J> {
 
     /// The broker recovers until it is ready.
     fn recover<R: Wait>(&self, rt: &R, before: Marked<J>) -> (Marked<J>, Answer)
-        ensures is { Says (λ done. Ready) result.1 (IsRecoveryAt result.0.broker) }
+        ensures is { Says (λ done. Ready) result.1 (IsRecoveryAt before result.0) }
         ensures later { GoesOnLater before result.0 }
     {
         let _work = self.seats.at_work(rt);

@@ -117,7 +117,7 @@ fn call_at_seat<J: Naming, R: Wait>(
     ensures client { result.0.client ≡ seat.client }
     ensures entry { AnswersCall J.first seat.list.items asked result.2 result.0.list.items }
     ensures settled { AnswersSettled J.first seat.client asked result.2 }
-    ensures is { IsCallAnswer J.first result.1 seat.client asked result.2 }
+    ensures is { IsCallAnswer J.first before result.1 seat.client asked result.2 }
     ensures later { GoesOnLater before result.1 }
 {
     let (seat, finished) = settled(rt, shared, seat);
@@ -148,7 +148,7 @@ pub fn answer_at_seat<J: Naming, R: Wait>(
     ensures client { result.0.client ≡ seat.client }
     ensures entry { AnswersAsked J.first seat.list.items request result.2 result.0.list.items }
     ensures settled { IfSome (asked_in request) (λ asked. AnswersSettled J.first seat.client asked result.2) }
-    ensures is { IfSome (asked_in request) (λ asked. IsCallAnswer J.first result.1 seat.client asked result.2) }
+    ensures is { IfSome (asked_in request) (λ asked. IsCallAnswer J.first before result.1 seat.client asked result.2) }
     ensures later { GoesOnLater before result.1 }
     ensures other { IfNone (asked_in request) (result.2 ≡ AnyAnswer.Refused Refusal.BadRequest) }
     ensures other_list { IfNone (asked_in request) (result.0.list.items ≡ seat.list.items) }

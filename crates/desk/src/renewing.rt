@@ -1,13 +1,13 @@
 //! Puts and takes, of which one that finds no room is made once more in fresh records.
 
 ghost use Rattle.std.specs.Prelude.{◌≡◌, ◌<◌, IfErr, IfOk, IfSome, IsTrue};
-ghost use Rattle.desk.specs.Answering.{IsCallAnswer, IsCalledBetween, IsCalledOf};
+ghost use Rattle.desk.specs.Answering.{IsCallAnswer, IsCalledBetween, IsCalledOf, IsWhyUnrenewed};
 ghost use Rattle.desk.specs.Calls.{asked_in};
 ghost use Rattle.desk.specs.Requests.{is_no_room};
 ghost use Rattle.desk.specs.Worth.{IsWorthIt};
-ghost use Rattle.workers.specs.Moments.{GoesOnLater};
+ghost use Rattle.workers.specs.Moments.{GoesOnLater, IsBetween};
 ghost use Rattle.workers.specs.Seen.{IsRenewedBetween};
-ghost use Rattle.workers.specs.Usage.{IsUsageOf};
+ghost use Rattle.workers.specs.Usage.{HasItemsOf, IsUsageOf};
 
 use crate::calls::{Asked, answer_at_seat, asked_in};
 use crate::counter::Counter;
@@ -50,7 +50,7 @@ impl Renewed {
         client: Client,
         request: &Request,
     ) -> (Marked<J>, Answer)
-        ensures is { IfSome (asked_in request.now) (λ asked. IsCallAnswer J.first result.0 client asked result.1) }
+        ensures is { IfSome (asked_in request.now) (λ asked. IsCallAnswer J.first before result.0 client asked result.1) }
         ensures later { GoesOnLater before result.0 }
     {
         let Renewed { slot: _, held: _ } = self;
@@ -68,7 +68,7 @@ impl<J: Naming> Counter<'_, J> {
         client: Client,
         request: &Request,
     ) -> (Marked<J>, Answer)
-        ensures is { IfSome (asked_in request.now) (λ asked. IsCallAnswer J.first result.0 client asked result.1) }
+        ensures is { IfSome (asked_in request.now) (λ asked. IsCallAnswer J.first before result.0 client asked result.1) }
         ensures later { GoesOnLater before result.0 }
     {
         let Some((owed, seat)) = self.seats.take(rt, client) else {
@@ -79,24 +79,49 @@ impl<J: Naming> Counter<'_, J> {
         (marked, answer)
     }
 
-    /// The queue of a call that found no room, if it is worth it that this begins in fresh records: else it is refused as
-    /// the call was (NoRoom). It is refused also as [`workers::Shared::find`] and [`workers::Shared::usage`] are.
-    fn worth_of<R: Wait>(&self, rt: &R, client: Client, asked: Asked) -> Result<Worth, Refusal>
-        requires { client.0 < J.clients }
-        ensures worth { IfOk result (λ worth. IsWorthIt worth.held client asked.call) }
-        ensures counts { IfOk result (λ worth. IsUsageOf J.clients J.first worth.held) }
+    /// The slot of the queue of a call. It is refused where there is none (NoQueue), and as [`workers::Shared::find`] is.
+    fn slot_of<R: Wait>(&self, rt: &R, asked: Asked) -> Result<SlotId, Refusal>
+        ensures errors { IfErr result IsWhyUnrenewed }
     {
         let Some(name) = asked.queue else {
             return Err(Refusal::NoQueue);
         };
-        let Some(slot) = self.shared.find(rt, &name)? else {
-            return Err(Refusal::NoQueue);
-        };
-        let held = self.shared.usage(rt, slot)?;
-        if !is_worth_it(held, client, &asked.call) {
-            return Err(Refusal::NoRoom);
+        match self.shared.find(rt, &name) {
+            Ok(Some(slot)) => Ok(slot),
+            Ok(None) => Err(Refusal::NoQueue),
+            Err(refusal) => Err(refusal),
         }
-        Ok(Worth { slot, held })
+    }
+
+    /// The queue of a call that found no room, if it is worth it that this begins in fresh records: else it is refused as
+    /// the call was (NoRoom). It is refused also as [`workers::Shared::find`] and [`workers::Shared::usage`] are.
+    fn worth_of<R: Wait>(
+        &self,
+        rt: &R,
+        before: Marked<J>,
+        client: Client,
+        asked: Asked,
+    ) -> (Marked<J>, Result<Worth, Refusal>)
+        requires { client.0 < J.clients }
+        ensures worth { IfOk result.1 (λ worth. IsWorthIt worth.held client asked.call) }
+        ensures items { IfOk result.1 (λ worth. HasItemsOf result.0 worth.slot.0 worth.held) }
+        ensures counts { IfOk result.1 (λ worth. IsUsageOf J.clients J.first worth.held) }
+        ensures errors { IfErr result.1 IsWhyUnrenewed }
+        ensures later { GoesOnLater before result.0 }
+    {
+        let slot = match self.slot_of(rt, asked) {
+            Ok(slot) => slot,
+            Err(refusal) => return (before, Err(refusal)),
+        };
+        let (marked, held) = self.shared.usage(rt, slot, before);
+        match held {
+            Ok(held) if is_worth_it(held, client, &asked.call) => (
+                marked,
+                Ok(Worth { slot, held }),
+            ),
+            Ok(_) => (marked, Err(Refusal::NoRoom)),
+            Err(refusal) => (marked, Err(refusal)),
+        }
     }
 
     /// That queue begins in fresh records. It is refused also as [`seating::Seating::renew`] is.
@@ -110,14 +135,18 @@ impl<J: Naming> Counter<'_, J> {
         requires { client.0 < J.clients }
         ensures worth { IfOk result.1 (λ renewed. IsWorthIt renewed.held client asked.call) }
         ensures counts { IfOk result.1 (λ renewed. IsUsageOf J.clients J.first renewed.held) }
+        ensures items { IfOk result.1 (λ renewed. IsBetween before result.0
+            (λ s. HasItemsOf s renewed.slot.0 renewed.held)) }
         ensures renewed { IfOk result.1 (λ renewed. IsRenewedBetween before result.0 renewed.slot.0) }
+        ensures errors { IfErr result.1 IsWhyUnrenewed }
         ensures later { GoesOnLater before result.0 }
     {
-        let Worth { slot, held } = match self.worth_of(rt, client, asked) {
+        let (marked, worth) = self.worth_of(rt, before, client, asked);
+        let Worth { slot, held } = match worth {
             Ok(worth) => worth,
-            Err(refusal) => return (before, Err(refusal)),
+            Err(refusal) => return (marked, Err(refusal)),
         };
-        let (marked, renewed) = self.seats.renew(rt, self.shared, slot, before);
+        let (marked, renewed) = self.seats.renew(rt, self.shared, slot, marked);
         match renewed {
             Ok(()) => (marked, Ok(Renewed { slot, held })),
             Err(refusal) => (marked, Err(refusal)),
@@ -159,7 +188,7 @@ impl<J: Naming> Counter<'_, J> {
         client: Client,
         request: &Request,
     ) -> (Marked<J>, Answer)
-        ensures is { IfSome (asked_in request.now) (λ asked. IsCallAnswer J.first result.0 client asked result.1) }
+        ensures is { IfSome (asked_in request.now) (λ asked. IsCallAnswer J.first before result.0 client asked result.1) }
         ensures later { GoesOnLater before result.0 }
     {
         let _work = self.seats.at_work(rt);

@@ -128,9 +128,10 @@ impl<J: Naming, S: Storage + Drop> Journaled<J, S> {
         (journaled, assured)
     }
 
-    /// Hears a token: the journal assures its session. Both come back as they were.
+    /// Hears a token: the journal assures its session, and the last hand-on goes on from it. Both come back as they were.
     pub fn hears(self, assured: Assured<J>) -> (Self, Assured<J>)
         ensures sure { Assures J.first self.policy assured self.journal }
+        ensures last { GoesOnLater assured self.last }
         ensures journaled { result.0 ≡ self }
         ensures assured { result.1 ≡ assured }
     {
@@ -332,6 +333,7 @@ impl<J: Naming, S: Storage + Drop> Journaled<J, S> {
         ensures kept { OnOk result.2 (result.1.kept ≡ result.1.size) }
         ensures moments { HasMoments J.first result.1 }
         ensures ends { OnOk result.2 (EndsAtMomentOf J.first result.0 result.1) }
+        ensures later { OnOk result.2 (GoesOnLater self.last result.0) }
     {
         let mut kept = self;
         let appended = kept.append_pending(alloc);

@@ -326,6 +326,7 @@ impl<J: Naming, S: Storage + Drop> Settler<J, S> {
     /// that stands at the place of the storage.
     pub fn hears(self, assured: Assured<J>) -> (Self, Assured<J>)
         ensures sure { Assures J.first self.policy assured self.kept.journal }
+        ensures last { GoesOnLater assured self.kept.last }
         ensures settler { result.0 ≡ self }
         ensures assured { result.1 ≡ assured }
     {
@@ -378,6 +379,7 @@ impl<J: Naming, S: Storage + Drop> Settler<J, S> {
         ensures kept { OnOk result.2 (result.1.kept ≡ result.1.size) }
         ensures moments { HasMoments J.first result.1 }
         ensures ends { OnOk result.2 (EndsAtMomentOf J.first result.0 result.1) }
+        ensures later { OnOk result.2 (GoesOnLater self.kept.last result.0) }
         ensures over { self.failed ≡ true → is_err result.2 ≡ true }
     {
         let failed = self.failed;

@@ -1,5 +1,9 @@
 -- What a command of `pqd` asks, by what its options were given.
-use Rattle.std.specs.Prelude.{◌≡◌, ◌⊎◌, ◌↔◌, IsTrue, List, Option, Some, None, ⊤, codes, option_map, option_and_then}
+use Rattle.std.specs.Prelude.{◌≡◌, ◌⊎◌, ◌↔◌, ◌∷◌, [], IsTrue, List, Option, Some, None, ⊤, codes, option_map, option_and_then}
+use Rattle.std.specs.Net.Grammar.{IsIpText}
+use Rattle.std.specs.declared.net.ip_addr.IpAddr.{IpAddr}
+use Rattle.std.specs.declared.net.ip_addr.IpAddr.TheVariants.{V4, V6}
+use Rattle.std.specs.Net.Addr.{ipv4_octets}
 use Rattle.words.specs.declared.limits.TheConstants.{MAX_CLIENTS, MAX_RECORDS}
 use Rattle.clap.specs.Words.{Row, Text, first_of}
 use Rattle.options.specs.declared.limits.TheConstants.{DEFAULT_CLIENTS, DEFAULT_RECORDS, DEFAULT_PORT, DEFAULT_WORKERS, MAX_PORT, MAX_WORKERS}
@@ -24,9 +28,26 @@ values_in met option = option_and_then (λ m. first_of option m.1) met
 abbrev pub IsKnown : Option Text → Type 0
 IsKnown command = (command ≡ Some (codes "pipe")) ⊎ (command ≡ Some (codes "serve"))
 
--- each number that a server was given is a whole number in the range of its option
-abbrev pub ListeningFits : (Text → Option Text) → Type 0
-ListeningFits given = Fits 0 MAX_PORT (given (codes "port")) × Fits 1 MAX_WORKERS (given (codes "workers"))
+-- no address is given, or one that the text writes
+abbrev pub AddressFits : Option Text → Type 0
+AddressFits None = ⊤
+AddressFits (Some text) = (address : IpAddr) × IsIpText text address
+
+-- this machine's own, 127.0.0.1
+abbrev pub IsLoopback : IpAddr → Type 0
+IsLoopback (V4 a) = ipv4_octets a ≡ 127 ∷ 0 ∷ 0 ∷ 1 ∷ []
+IsLoopback (V6 a) = ⊥
+
+-- it is the one that is given, and the loopback where none is
+abbrev pub IsAddressGiven : Option Text → IpAddr → Type 0
+IsAddressGiven None address = IsLoopback address
+IsAddressGiven (Some text) address = IsIpText text address
+
+-- a server was given an address, and each number is a whole number in the range of its option
+pub record ListeningFits (given : Text → Option Text) : Type 0 where
+  pub address : AddressFits (given (codes "listen"))
+  pub port : Fits 0 MAX_PORT (given (codes "port"))
+  pub workers : Fits 1 MAX_WORKERS (given (codes "workers"))
 
 -- the syncing is the one that is given, and each second where none is
 abbrev pub SyncsBy : Option Text → Syncing → Type 0
@@ -59,6 +80,7 @@ pub record AllFit (command : Option Text) (given : Text → Option Text) : Type 
 -- a server listens where its options say, and has as many workers
 pub record ListensBy (given : Text → Option Text) (listening : Listening) : Type 0 where
   pub fit : ListeningFits given
+  pub address : IsAddressGiven (given (codes "listen")) listening.address
   pub port : listening.port ≡ number_of DEFAULT_PORT (given (codes "port"))
   pub workers : listening.workers ≡ number_of DEFAULT_WORKERS (given (codes "workers"))
 

@@ -4,6 +4,8 @@ ghost use Rattle.std.specs.Prelude.{◌≤◌};
 ghost use Rattle.words.specs.declared.limits.TheConstants.{MAX_CLIENTS, MAX_RECORDS};
 ghost use Rattle.options.specs.declared.limits.TheConstants.{MAX_WORKERS};
 
+use std::net::IpAddr;
+
 /// What `pqd` is asked to do.
 #[derive(Clone, Copy)]
 pub struct Options<'a> {
@@ -57,6 +59,8 @@ pub enum Mode {
 /// Where a server listens, and how many connections it serves at once.
 #[derive(Clone, Copy)]
 pub struct Listening {
+    /// Who reaches it reaches the server.
+    pub address: IpAddr,
     /// 0 lets the system choose.
     pub port: u16,
     /// The threads that serve, from 1 to `MAX_WORKERS`.

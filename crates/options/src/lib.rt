@@ -1,6 +1,7 @@
 //! What may be asked of `pqd` and of `pqx`, and what a parse that clap made asks.
 #![tactic(auto)]
 
+mod address;
 mod asked;
 mod limits;
 mod line;

@@ -6,6 +6,7 @@ ghost use Rattle.options.specs.Asked.{AllFit, Asks, IsKnown, ListeningFits, List
 ghost use Rattle.options.specs.Asked.{IsSyncing, JournalFits, JournalsBy, CommandAsks, CommandFits, SyncsBy, name_in};
 ghost use Rattle.options.specs.Numbers.{given_text};
 
+use crate::address::address;
 use crate::asked::{Journaling, Listening, Mode, Options, Syncing};
 use crate::limits::{CLIENTS, PORT, RECORDS, WORKERS};
 use crate::number::Misfit;
@@ -27,6 +28,7 @@ fn listening(given: &ArgMatches<'_>) -> Result<Listening, Misfit>
     ensures misfit { OnErr result (¬ (ListeningFits (first_value (found_of given.now)))) }
 {
     Ok(Listening {
+        address: address(given.get_str("listen"))?,
         port: PORT.read(given.get_str("port"))? as u16,
         workers: WORKERS.read(given.get_str("workers"))?,
     })

@@ -56,6 +56,8 @@ pub enum Misfit {
         least: u32,
         most: u32,
     },
+    /// `--listen` was given what is no address.
+    Address,
     /// `--sync` was given what is none of its three words.
     Syncing,
     /// `--sync` was given without a journal.
@@ -68,6 +70,9 @@ impl fmt::Display for Misfit {
             Misfit::Number { name, least, most } => write!(
                 f,
                 "the option '--{name}' takes a whole number from {least} to {most}"
+            ),
+            Misfit::Address => f.write_str(
+                "the option '--listen' takes an IPv4 or an IPv6 address",
             ),
             Misfit::Syncing => f.write_str("the option '--sync' takes always, second or never"),
             Misfit::Unjournaled => f.write_str("the option '--sync' goes with '--journal'"),

@@ -2,7 +2,7 @@
 
 ghost use Rattle.std.specs.Prelude.{◌≡◌, IfOk};
 ghost use Rattle.opening.specs.Sessions.{IsUncalled};
-ghost use Rattle.pqd.specs.Keeping.{GoesOnFrom, policy_for};
+ghost use Rattle.pqd.specs.Keeping.{GoesOnFrom, GoesOnFromFiles, policy_for};
 
 use crate::{Fault, broker_for, fill_places, listener_at, service_of};
 use devices::{CountedReader, CountedWriter};
@@ -67,7 +67,8 @@ fn broker_from<D: Folder + Drop>(
     asked: &Options<'_>,
     store: &Store<D>,
 ) -> Result<Broker, Fault>
-    ensures { IfOk result IsUncalled }
+    ensures uncalled { IfOk result IsUncalled }
+    ensures found { IfOk result (GoesOnFromFiles asked.now store.now.files) }
 {
     let Some(found) = store.find(rt.alloc())? else {
         return Ok(broker_for(rt, asked)?);
@@ -106,7 +107,7 @@ fn serve_input<T: Threads + Wait + Clock + Sync, D: Folder + Drop + Send>(
     Ok(left.image)
 }
 
-/// Serves connections of the loopback, with a journal. The image that it leaves.
+/// Serves connections, with a journal. The image that it leaves.
 fn serve_connections<T: Threads + Wait + Net + Log + Clock + Sync, D: Folder + Drop + Send>(
     threads: &T,
     rt: &HostRuntime,
@@ -138,6 +139,7 @@ fn kept_in<D: Folder + Drop>(
     syncing: Syncing,
 ) -> Result<Kept<D>, Fault>
     ensures uncalled { IfOk result (λ kept. IsUncalled kept.broker) }
+    ensures found { IfOk result (λ kept. GoesOnFromFiles asked.now kept.journaling.storage.files kept.broker) }
     ensures policy { IfOk result (λ kept. kept.journaling.policy ≡ policy_for syncing) }
 {
     let broker = broker_from(rt, asked, &store)?;

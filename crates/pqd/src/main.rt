@@ -99,14 +99,21 @@ fn fill_places(rt: &HostRuntime) -> [io::Result<File>; 3] {
     ]
 }
 
-/// A listener of the loopback's port, once it has said where it listens.
+/// A listener of the address, once it has said where it listens, and who is served there where that is not this machine
+/// alone.
 fn listener_at(rt: &HostRuntime, at: Listening) -> Result<TcpListener, Fault> {
-    let Ok(listener) = TcpListener::bind(rt, SocketAddr::from(([127u8, 0, 0, 1], at.port))) else {
+    let Ok(listener) = TcpListener::bind(rt, SocketAddr::from((at.address, at.port))) else {
         return Err(Fault::Listen);
     };
     let Ok(address) = listener.local_addr() else {
         return Err(Fault::Listen);
     };
+    if !at.address.is_loopback() {
+        let said = eprintln!(rt; "pqd: whoever reaches {address} is served: there is no password");
+        if said.is_err() {
+            return Err(Fault::Refused(Refusal::WriteFailed));
+        }
+    }
     if println!(rt; "listening {address}").is_err() {
         return Err(Fault::Refused(Refusal::WriteFailed));
     }
@@ -121,7 +128,7 @@ fn service_of(at: Listening, asked: &Options<'_>) -> Service {
     }
 }
 
-/// Serves connections of the loopback. The image that it leaves.
+/// Serves connections. The image that it leaves.
 fn serve_connections<T: Threads + Wait + Net + Log + Clock + Sync>(
     threads: &T,
     rt: &HostRuntime,

@@ -5,7 +5,7 @@ ghost use Rattle.std.specs.Prelude.{IfErr, IfOk, IfSome, IsNone, IsSome, OnOk};
 ghost use Rattle.workers.specs.Moments.{GoesOnLater};
 ghost use Rattle.workers.specs.Refusals.{IsWhyNotRenewed};
 ghost use Rattle.workers.specs.Seats.{AreAllInOrder};
-ghost use Rattle.workers.specs.Seen.{IsRenewedBetween};
+ghost use Rattle.workers.specs.Seen.{HasStoppedSince, IsRenewedBetween};
 ghost use Rattle.seating.specs.Seating.{AreBack, AreInPlaces};
 
 use arena::SlotId;
@@ -138,7 +138,7 @@ impl<J: Naming> Post<J> {
         shared: &Shared<J>,
         before: Marked<J>,
     ) -> (Marked<J>, Result<(), Refusal>)
-        ensures down { OnOk result.1 (IsSome result.0.broker.recovery) }
+        ensures stopped { OnOk result.1 (HasStoppedSince before result.0) }
         ensures errors { IfErr result.1 (λ refusal. refusal ≡ Refusal.NoMemory) }
         ensures later { GoesOnLater before result.0 }
     {
@@ -315,7 +315,7 @@ impl<J: Naming> Seating<J> {
         shared: &Shared<J>,
         before: Marked<J>,
     ) -> (Marked<J>, Result<(), Refusal>)
-        ensures down { OnOk result.1 (IsSome result.0.broker.recovery) }
+        ensures stopped { OnOk result.1 (HasStoppedSince before result.0) }
         ensures errors { IfErr result.1 (λ refusal. refusal ≡ Refusal.NoMemory) }
         ensures later { GoesOnLater before result.0 }
     {

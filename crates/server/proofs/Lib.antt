@@ -1,3 +1,4 @@
 mod Endings
 mod Restarts
 mod Lefts
+mod Pipes

@@ -4,7 +4,7 @@ ghost use Rattle.std.specs.Prelude.{◌≡◌, IfOk};
 ghost use Rattle.workers.specs.Moments.{IsFirstMoment};
 ghost use Rattle.workers.specs.Opening.{IsNameOf};
 ghost use Rattle.workers.specs.Seats.{AreAllInOrder};
-ghost use Rattle.serving.specs.Journaled.{IsLeftAfter};
+ghost use Rattle.serving.specs.Journaled.{IsLeftSince};
 
 use crate::ending::seated;
 use journal_file::Storage;
@@ -56,7 +56,8 @@ impl<J: Naming, S: Storage + Drop> LastingBroker<J, S> {
     /// What is left of it once all connections have ended: the image, and the journal with its last batch, which is kept.
     /// It is refused as [`crate::ending::image_left`] is; and NotKept where the journal failed.
     pub(crate) fn end(self, alloc: Global) -> Result<Left<S>, Unserved>
-        ensures { IfOk result (λ left. IsLeftAfter J.first left.image.items left.journal) }
+        ensures { IfOk result
+            (λ left. IsLeftSince J.first self.settler.kept.last left.image.items left.journal) }
     {
         let LastingBroker {
             shared,
@@ -78,7 +79,7 @@ fn left_of<J: Naming, S: Storage + Drop>(
     settler: Settler<J, S>,
 ) -> Result<Left<S>, Unserved>
     requires { AreAllInOrder (λ seat. seat.client) J.clients seats.items }
-    ensures { IfOk result (λ left. IsLeftAfter J.first left.image.items left.journal) }
+    ensures { IfOk result (λ left. IsLeftSince J.first settler.kept.last left.image.items left.journal) }
 {
     let (session, journal, ended) = settler.close(alloc, shared, seats);
     if ended.is_err() {

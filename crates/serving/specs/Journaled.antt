@@ -1,5 +1,7 @@
 -- What is left of a broker that was served with a journal.
 use Rattle.std.specs.Prelude.{◌≡◌, ℕ, List}
+use Rattle.chronicle.specs.Chronicled.{Chronicled}
+use Rattle.desk.specs.Answering.{IsServedInTurn}
 use Rattle.words.specs.declared.refusal.Refusal.TheVariants.{ReadFailed, WriteFailed}
 use Rattle.engine.specs.declared.failure.Failure.{Failure}
 use Rattle.engine.specs.declared.failure.Failure.TheVariants as failure
@@ -7,6 +9,9 @@ use Rattle.journal_file.specs.OnDevice.{OnDevice}
 use Rattle.lasting.specs.Lasting.{EndsAtMomentOf}
 use Rattle.named.specs.Brokers.{Brokered}
 use Rattle.session.specs.Sessions.{Sessioned}
+use Rattle.wire.specs.declared.answer.Answer.{Answer}
+use Rattle.wire.specs.declared.request.Request.{Request}
+use Rattle.workers.specs.Moments.{GoesOnLater}
 use Rattle.serving.specs.declared.journals.Unserved.{Unserved}
 use Rattle.serving.specs.declared.journals.Unserved.TheVariants.{Refused, NotKept}
 use Rattle.serving.specs.Image.{IsImageAfter, IsOpenedOver}
@@ -19,6 +24,27 @@ pub record IsLeftAfter (first : Sessioned) (bytes : List ℕ) (j : OnDevice) : T
   pub words : j.words ≡ image.last.broker.words.kept
   pub kept : j.kept ≡ j.size
   pub moments : EndsAtMomentOf first image.last j
+
+-- and the session goes on from this one
+pub record IsLeftSince (first since : Sessioned) (bytes : List ℕ) (j : OnDevice) : Type 0 where
+  pub left : IsLeftAfter first bytes j
+  pub later : GoesOnLater since left.image.last
+
+-- A session over the broker answered requests in turn, of which this is so; what is settled of them, up to this session.
+pub record IsPiped (broker : Brokered) (IsSo : Chronicled (Request × Answer) → Type 0) : Type 0 where
+  pub first : Sessioned
+  pub opened : IsOpenedOver broker first
+  pub clients : ℕ
+  pub served : Chronicled (Request × Answer)
+  pub is : IsSo served
+  pub sure : Sessioned
+  pub turn : IsServedInTurn clients first served.settled sure
+
+-- and it came to what the image and the journal have
+pub record IsPipedTo (broker : Brokered) (bytes : List ℕ) (j : OnDevice) (IsSo : Chronicled (Request × Answer) → Type 0)
+    : Type 0 where
+  pub piped : IsPiped broker IsSo
+  pub left : IsLeftSince piped.first piped.sure bytes j
 
 -- the image and the journal that a broker leaves, which a session over it served
 pub record IsLeftBy (broker : Brokered) (bytes : List ℕ) (j : OnDevice) : Type 0 where

@@ -42,6 +42,13 @@ impl<'a, 'j, J: Naming + Settling, S: Storage + Drop> LastingDesk<'a, 'j, J, S> 
             unsettled: 0,
         })
     }
+
+    /// The desk where its requests were answered.
+    pub fn into_desk(self) -> MarkingDesk<'a, J>
+        ensures { result ≡ self.desk }
+    {
+        self.desk
+    }
 }
 
 impl<J: Naming + Settling, S: Storage + Drop> Desk for LastingDesk<'_, '_, J, S> {

@@ -23,6 +23,13 @@ impl<'a, D: Desk> StoppingDesk<'a, D> {
     {
         StoppingDesk { desk, said }
     }
+
+    /// The desk that it stands before.
+    pub fn into_desk(self) -> D
+        ensures { result ≡ self.desk }
+    {
+        self.desk
+    }
 }
 
 impl<D: Desk> Desk for StoppingDesk<'_, D> {

@@ -206,7 +206,8 @@ fn show_list<J: Naming, R: Print>(rt: &R, seat: &Seat<J>) {
 /// Prints how full the log queue is.
 fn show_usage<J: Naming, R: Wait + Print>(rt: &R, shared: &Shared<J>) -> Result<(), Refusal> {
     for _ in 0..MOST_TRIES {
-        match shared.usage(rt, SlotId(0)) {
+        let (_marked, held) = shared.usage(rt, SlotId(0), shared.mark_now(rt));
+        match held {
             Ok(usage) => {
                 let _ = println!(rt; "{} items, {} records", usage.items, usage.records);
                 return Ok(());

@@ -1,4 +1,5 @@
 pub mod Laters
+pub mod Betweens
 pub mod Guarded
 pub mod Notes
 pub mod Moments

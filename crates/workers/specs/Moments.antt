@@ -20,6 +20,13 @@ pub record GoesOnLater (earlier later : Sessioned) : Type 0 where
   pub ended : Bool
   pub came : CameThrough earlier.broker ended later.broker
 
+-- so it is of a session between these
+pub record IsBetween (before now : Sessioned) (IsSo : Sessioned → Type 0) : Type 0 where
+  pub session : Sessioned
+  pub earlier : GoesOnLater before session
+  pub later : GoesOnLater session now
+  pub is : IsSo session
+
 -- these are the kept words of a moment: of this session, which goes on from the first one. It keeps its promises, a
 -- broker may begin on the words, and what is settled there they tell
 pub record IsMomentOf (first session : Sessioned) (kept : List ℕ) : Type 0 where

@@ -10,13 +10,15 @@ use Rattle.directory.specs.Directory.{Directory, HasName, HasQueue, IsFree}
 use Rattle.directory.specs.Name.{IsName}
 use Rattle.directory.specs.declared.queue.Queue.{Queue}
 use Rattle.interleave.specs.Queue.{told_in, told_to}
-use Rattle.named.specs.Brokers.{Brokered, answer_at, room_at}
+use Rattle.named.specs.Brokers.{Brokered, MayCreate, answer_at, room_at}
 use Rattle.named.specs.Finding.{IsPlaced}
 use Rattle.named.specs.Rotating.{IsRotated}
+use Rattle.named.specs.Stopping.{IsStopped}
 use Rattle.session.specs.Requests.{answer_to, beginning, number_or_zero}
 use Rattle.session.specs.Sessions.{Sessioned}
 use Rattle.workers.specs.Lists.{ends_open}
-use Rattle.workers.specs.Moments.{GoesOnLater}
+use Rattle.workers.specs.Marks.{IsMarkedBy}
+use Rattle.workers.specs.Moments.{GoesOnLater, IsBetween}
 use Rattle.workers.specs.Renewing.{IsRenewedOn}
 use Rattle.workers.specs.declared.entry.Answer.{Answer}
 use Rattle.workers.specs.declared.entry.Answer.TheVariants.{Refused, Reply as answer_reply, Interrupted as answer_interrupted, Unfinished}
@@ -111,9 +113,24 @@ pub record IsRenewedBetween (before now : Sessioned) (slot : ℕ) : Type 0 where
   pub renewed : IsRenewedOn session.broker now.broker slot
   pub ready : now.broker.recovery ≡ None
 
+-- where a creation had begun, this is so
+abbrev pub IfCreationBegun : Created → Type 0 → Type 0
+IfCreationBegun (created_queue slot) IsSo = IsSo
+IfCreationBegun (creation_refused refusal) IsSo = Unit {0}
+IfCreationBegun Interrupted IsSo = IsSo
+
+-- a queue of the name might be created at a session between these, where none has it yet
+abbrev pub MightBeCreated : Sessioned → Sessioned → List ℕ → Type 0
+MightBeCreated before now name = IsBetween before now (λ s. MayCreate s.broker name)
+
+-- the histories of a session between these have just this list of the client's calls
+abbrev pub HadCalled : Sessioned → Client → List Entry → Sessioned → Sessioned → Type 0
+HadCalled first client list before now = IsBetween before now (IsMarkedBy first client list)
+
+-- everything stopped, behind a session between these
+abbrev pub HasStoppedSince : Sessioned → Sessioned → Type 0
+HasStoppedSince before now = IsBetween before now (λ s. IsStopped s.broker now.broker)
+
 -- the broker was down at a session between these
-pub record WasDown (before after : Sessioned) : Type 0 where
-  pub session : Sessioned
-  pub is_down : IsSome session.broker.recovery
-  pub earlier : GoesOnLater before session
-  pub later : GoesOnLater session after
+abbrev pub WasDown : Sessioned → Sessioned → Type 0
+WasDown before now = IsBetween before now (λ s. IsSome s.broker.recovery)

@@ -13,7 +13,7 @@ ghost use Rattle.workers.specs.Moments.{GoesOnLater};
 ghost use Rattle.workers.specs.Noting.{to_create, with_promised, HasPromised};
 ghost use Rattle.workers.specs.Renewing.{HasRoomToRecover};
 ghost use Rattle.workers.specs.Recovered.{is_ready_after, IsRecoveryRefusal, IsRefusedOnlyIfReady, IsStepIfRoom};
-ghost use Rattle.workers.specs.Seen.{IsCreationAt, IsWhyNotCreated, WasDown};
+ghost use Rattle.workers.specs.Seen.{HasStoppedSince, IsCreationAt, IsWhyNotCreated, WasDown};
 ghost use Rattle.workers.specs.declared.deeds.Deed.{Deed as AnyDeed};
 ghost use Rattle.workers.specs.declared.locked.Creating.{Creating as AnyCreating};
 
@@ -94,6 +94,7 @@ impl<J: Naming> Locked<J> {
         queue: &Queue,
         before: Marked<J>,
     ) -> (Marked<J>, Result<(), Refusal>)
+        ensures may { OnOk result.1 (MayCreate result.0.broker queue.now.name) }
         ensures taken { HasName J.first.broker.directory queue.now.name → IsErr result.1 }
         ensures errors { IfErr result.1 (IsWhyNotCreated result.0.broker queue.now.name) }
         ensures later { GoesOnLater before result.0 }
@@ -181,15 +182,15 @@ impl<J: Naming> Locked<J> {
         before: Marked<J>,
     ) -> (Operator<J>, Marked<J>, Result<(), Refusal>)
         requires { deeds.now ≡ J.roll.deeds }
-        ensures down { OnOk result.2 (IsSome result.1.broker.recovery) }
+        ensures stopped { OnOk result.2 (HasStoppedSince before result.1) }
         ensures stops { OnOk result.2 (result.0 ≡ operator ++ AnyDeed.Crash ∷ []) }
         ensures same { OnErr result.2 (result.0 ≡ operator) }
         ensures errors { IfErr result.2 (λ refusal. refusal ≡ Refusal.NoMemory) }
         ensures later { GoesOnLater before result.1 }
     {
-        let (operator, stopped) = self.stop(deeds, operator);
         let marked = self.mark_after(before);
-        (operator, marked, stopped)
+        let (operator, stopped) = self.stop(deeds, operator);
+        (operator, self.mark_after(marked), stopped)
     }
 
     /// One step of recovery, for whose change room was promised: whether the broker is ready by it.

@@ -1,6 +1,6 @@
 //! How changes of kept words are handed on from under the lock, and the session marked.
 
-ghost use Rattle.std.specs.Prelude.{◌≡◌, ◌++◌, ◌∷◌, [], true, All, Contains, IfErr, IfNone, IfOk, IfSome, OnErr, OnOk};
+ghost use Rattle.std.specs.Prelude.{◌≡◌, ◌++◌, ◌∷◌, [], true, All, Contains, IfErr, IfNone, IfOk, IfSome, OnErr, OnOk, vec_capacity};
 ghost use Rattle.roll.specs.Rule.{IsHolder, row_of};
 ghost use Rattle.workers.specs.Marks.{IsMarkedBy};
 ghost use Rattle.workers.specs.Moments.{AreHandedWithin, GoesOnLater, IsHandedMoment, IsMadeByHanded, IsMomentOf};
@@ -240,7 +240,9 @@ impl<J: Naming> Locked<J> {
         requires roll { roll.now ≡ J.roll.lists }
         ensures client { result.0.client ≡ seat.client }
         ensures list { result.0.list.items ≡ seat.list.items }
+        ensures room { vec_capacity result.0.list ≡ vec_capacity seat.list }
         ensures marked { IsMarkedBy J.first seat.client seat.list.items result.1 }
+        ensures now { (result.1 ≡ self.old.session) × (self.new.session ≡ self.old.session) }
         ensures before { GoesOnLater before result.1 }
     {
         self.session.tells_settled();

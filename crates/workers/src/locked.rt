@@ -11,7 +11,7 @@ ghost use Rattle.workers.specs.Moments.{GoesOnLater};
 ghost use Rattle.workers.specs.Noting.{IsBooked};
 ghost use Rattle.workers.specs.Refusals.{IsSettledStart, IsWhyRefused, WasSettled};
 ghost use Rattle.workers.specs.Seats.{AreEmpty};
-ghost use Rattle.workers.specs.Seen.{IsRefusedAt, IsRefusedIn};
+ghost use Rattle.workers.specs.Seen.{HadCalled, IsRefusedAt, IsRefusedIn};
 
 use crate::book::{Book, advance, promise};
 use crate::deeds::Register;
@@ -202,7 +202,7 @@ impl<J: Naming> Locked<J> {
     }
 
     /// The same, and a mark of the session, in the place of an earlier one: as it was before, or, where the call has the
-    /// reply that was kept, as it is with the seat's list.
+    /// reply that was kept, as it is with the seat's list. Before, the histories had just the seat's list.
     pub(crate) fn begin(
         &mut self,
         roll: &Roll<Entry>,
@@ -221,9 +221,10 @@ impl<J: Naming> Locked<J> {
             IsMarkedBy J.first seat.client result.0.list.items result.1)) }
         ensures settled { (reply : Reply) → WasSettled J.first seat.client request.now reply
             → IsSettledStart reply result.2 }
+        ensures since { HadCalled J.first seat.client seat.list.items before result.1 }
         ensures later { GoesOnLater before result.1 }
     {
-        let marked = self.mark_after(before);
+        let (seat, marked) = self.mark_further(roll, seat, before);
         let (seat, began) = self.begin_found(roll, seat, request);
         match began {
             Ok(Some(reply)) => {

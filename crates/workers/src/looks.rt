@@ -91,7 +91,7 @@ impl<J: Naming> Locked<J> {
     }
 
     /// What the queue of a slot holds.
-    pub(crate) fn usage(&self, slot: SlotId) -> Result<Usage, Refusal>
+    fn held(&self, slot: SlotId) -> Result<Usage, Refusal>
         ensures items { IfOk result (HasItemsOf self.now.session slot.0) }
         ensures counts { IfOk result (IsUsageOf J.clients J.first) }
         ensures errors { IfErr result (IsWhyNoUsage J.first slot) }
@@ -103,5 +103,20 @@ impl<J: Naming> Locked<J> {
             clients: self.session.broker().clients(),
             records: self.session.broker().records(),
         })
+    }
+
+    /// That, and a mark of the session, in the place of an earlier one.
+    pub(crate) fn usage(
+        &mut self,
+        slot: SlotId,
+        before: Marked<J>,
+    ) -> (Marked<J>, Result<Usage, Refusal>)
+        ensures items { IfOk result.1 (HasItemsOf result.0 slot.0) }
+        ensures counts { IfOk result.1 (IsUsageOf J.clients J.first) }
+        ensures errors { IfErr result.1 (IsWhyNoUsage J.first slot) }
+        ensures later { GoesOnLater before result.0 }
+    {
+        let held = self.held(slot);
+        (self.mark_after(before), held)
     }
 }

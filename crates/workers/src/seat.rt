@@ -108,6 +108,7 @@ pub(crate) fn known<J: Naming>(
     ensures known { slice_get (rows_of keeper.old) seat.client.0 ≡ Some seat.list.items }
     ensures client { result.client ≡ seat.client }
     ensures list { result.list.items ≡ seat.list.items }
+    ensures room { vec_capacity result.list ≡ vec_capacity seat.list }
     ensures keeper { IsKeeper J.roll.lists (rows_of keeper.old) keeper.new }
 {
     let Seat {

@@ -9,8 +9,9 @@ ghost use Rattle.workers.specs.Moments.{GoesOnLater};
 ghost use Rattle.workers.specs.Refusals.{is_refused, IfNotMade, IsWhyNotTold};
 ghost use Rattle.workers.specs.Recovered.{is_ready_after, is_ready_by, told_of_recovery, IsRecoveryRefusal};
 ghost use Rattle.workers.specs.Refusals.{IsSettledAnswer, IsSettledStart, IsWhyNoUsage, IsWhyRefused, WasSettled};
-ghost use Rattle.workers.specs.Seen.{IfMade, IsCallRefused, IsCreationAt, IsListing, IsRefusedAt, IsTelling, WasDown};
-ghost use Rattle.workers.specs.Usage.{IsUsageOf};
+ghost use Rattle.workers.specs.Seen.{HadCalled, HasStoppedSince, IfCreationBegun, IfMade, IsCallRefused, IsCreationAt};
+ghost use Rattle.workers.specs.Seen.{IsListing, IsRefusedAt, IsTelling, MightBeCreated, WasDown};
+ghost use Rattle.workers.specs.Usage.{HasItemsOf, IsUsageOf};
 ghost use Rattle.directory.specs.Directory.{HasName};
 ghost use Rattle.directory.specs.Name.{IsName};
 ghost use Rattle.workers.specs.declared.entry.Answer.{Answer as AnyAnswer};
@@ -90,6 +91,7 @@ impl<J: Naming> Shared<J> {
             IsMarkedBy J.first seat.client result.0.list.items result.1)) }
         ensures settled { (reply : Reply) → WasSettled J.first seat.client request reply
             → IsSettledStart reply result.2 }
+        ensures since { HadCalled J.first seat.client seat.list.items before result.1 }
         ensures later { GoesOnLater before result.1 }
     {
         lock(rt, &self.locked).begin(&self.roll, seat, &request, before)
@@ -156,7 +158,8 @@ impl<J: Naming> Shared<J> {
     /// (NoQueue), and as [`session::Session::begin`] is; then nothing is remembered. A number that was settled when the
     /// seats were given runs no more: it has its reply, or is Old. A step that is refused memory leaves the call under
     /// way (Unfinished), for [`Shared::finish`]. With the answer comes a mark of the session, in the place of an earlier
-    /// one: its histories have the seat's list, or it is the session that refuses the call.
+    /// one: its histories have the seat's list, or it is the session that refuses the call. Behind the earlier mark, and
+    /// before the call, the histories had the list without it.
     pub fn call<R: Wait, G: Gate>(
         &self,
         rt: &R,
@@ -168,6 +171,7 @@ impl<J: Naming> Shared<J> {
         ensures client { result.0.client ≡ seat.client }
         ensures entry { Remembers seat.list.items request result.2 result.0.list.items }
         ensures marked { IfMade result.2 (IsMarkedBy J.first seat.client result.0.list.items result.1) }
+        ensures since { IfMade result.2 (HadCalled J.first seat.client seat.list.items before result.1) }
         ensures refused { IfNotMade result.2 (IsCallRefused seat.list.items result.1 seat.client request) }
         ensures busy { ends_open seat.list.items ≡ true
             → result ≡ (seat, before, AnyAnswer.Refused Refusal.Busy) }
@@ -211,7 +215,7 @@ impl<J: Naming> Shared<J> {
     /// [`session::Session::create`] is; Busy also where a crash ended another creation whose caller has not seen that
     /// yet, and, where changes are noted, while memory for all of its own is refused. A name that a queue had when the
     /// seats were given is taken for good, and so is its slot. With the answer comes a mark of the session, in the place
-    /// of an earlier one.
+    /// of an earlier one, behind which no queue had the name yet.
     pub fn create<R: Wait>(
         &self,
         rt: &R,
@@ -220,6 +224,7 @@ impl<J: Naming> Shared<J> {
         before: Marked<J>,
     ) -> (Marked<J>, Created)
         ensures there { IsCreationAt result.0.broker (record { name = name.now; kind = kind }) result.1 }
+        ensures since { IfCreationBegun result.1 (MightBeCreated before result.0 name.now) }
         ensures bad_name { (IsName name.now → ⊥) → result.1 ≡ AnyCreated.Refused Refusal.BadName }
         ensures taken { HasName J.first.broker.directory name.now → IsTrue (is_refused result.1) }
         ensures free { IsCreatedBeside J.first.broker.directory result.1 }
@@ -252,7 +257,7 @@ impl<J: Naming> Shared<J> {
         operator: Operator<J>,
         before: Marked<J>,
     ) -> (Operator<J>, Marked<J>, Result<(), Refusal>)
-        ensures down { OnOk result.2 (IsSome result.1.broker.recovery) }
+        ensures stopped { OnOk result.2 (HasStoppedSince before result.1) }
         ensures stops { OnOk result.2 (result.0 ≡ operator ++ AnyDeed.Crash ∷ []) }
         ensures same { OnErr result.2 (result.0 ≡ operator) }
         ensures errors { IfErr result.2 (λ refusal. refusal ≡ Refusal.NoMemory) }
@@ -321,12 +326,20 @@ impl<J: Naming> Shared<J> {
         lock(rt, &self.locked).told(client, name, before)
     }
 
-    /// What the queue of a slot holds now, and how many clients and records it has. It walks the queue. It is refused, in
-    /// this order, where the slot has no queue (NoQueue), and for want of memory (NoMemory).
-    pub fn usage<R: Wait>(&self, rt: &R, slot: SlotId) -> Result<Usage, Refusal>
-        ensures counts { IfOk result (IsUsageOf J.clients J.first) }
-        ensures errors { IfErr result (IsWhyNoUsage J.first slot) }
+    /// What the queue of a slot holds, and how many clients and records it has. It walks the queue. It is refused, in this
+    /// order, where the slot has no queue (NoQueue), and for want of memory (NoMemory). With the answer comes a mark of the
+    /// session whose queue holds so much, in the place of an earlier one.
+    pub fn usage<R: Wait>(
+        &self,
+        rt: &R,
+        slot: SlotId,
+        before: Marked<J>,
+    ) -> (Marked<J>, Result<Usage, Refusal>)
+        ensures items { IfOk result.1 (HasItemsOf result.0 slot.0) }
+        ensures counts { IfOk result.1 (IsUsageOf J.clients J.first) }
+        ensures errors { IfErr result.1 (IsWhyNoUsage J.first slot) }
+        ensures later { GoesOnLater before result.0 }
     {
-        lock(rt, &self.locked).usage(slot)
+        lock(rt, &self.locked).usage(slot, before)
     }
 }

@@ -3,32 +3,12 @@ use Rattle.std.proofs.Common.{◌≡◌, Bool, true, false, Option, Some, None, 
 use Rattle.std.specs.Prelude.{OnOk}
 use Rattle.words.specs.declared.refusal.Refusal.{Refusal}
 use Rattle.words.specs.declared.refusal.Refusal.TheVariants.{AlreadyReady}
-use Rattle.session.specs.Sessions.{Sessioned}
-use Rattle.workers.specs.Moments.{GoesOnLater}
 use Rattle.workers.specs.Recovered.{told_of_recovery}
-use Rattle.workers.specs.Seen.{WasDown}
-use Rattle.workers.proofs.guard.Laters.{later_still}
 
--- over what came before, and after
-pub down_since : (earlier before now : Sessioned) → GoesOnLater earlier before → WasDown before now → WasDown earlier now
-down_since earlier before now on was = record {
-  session = was.session;
-  is_down = was.is_down;
-  earlier = later_still earlier before was.session on was.earlier;
-  later = was.later;
-}
-
-pub down_further : (before now then : Sessioned) → WasDown before now → GoesOnLater now then → WasDown before then
-down_further before now then was on = record {
-  session = was.session;
-  is_down = was.is_down;
-  earlier = was.earlier;
-  later = later_still was.session now then was.later on;
-}
-
-pub down_by_step : {P Q : Type 0} (step : Result Bool Refusal) → (P → Q) → OnOk step P → OnOk step Q
-down_by_step (Ok ready) so was = so was
-down_by_step (Err refusal) so was = tt
+-- where something was done
+pub done_so : {A P Q : Type 0} (result : Result A Refusal) → (P → Q) → OnOk result P → OnOk result Q
+done_so (Ok done) so was = so was
+done_so (Err refusal) so was = tt
 
 -- who is told that it recovered made a step, or had made one
 pub down_told : {P : Type 0} (begun : Bool) (step : Result Bool Refusal) (told : Result Unit Refusal)

@@ -6,12 +6,15 @@ use Rattle.workers.proofs.lists.LastCalls.{ends_open_push, with_end_push}
 use Rattle.workers.specs.Answers.{Finishes, IsListBegun, IsAddedOpen, Remembers, entry_of}
 use Rattle.workers.specs.Lists.{ends_open, with_end}
 use Rattle.workers.specs.Refusals.{IsSettledStart, is_settled_refusal}
+use Rattle.workers.specs.Seen.{IfCreationBegun, IfMade}
 use Rattle.workers.specs.declared.entry.Answer.{Answer}
 use Rattle.workers.specs.declared.entry.Answer.TheVariants.{Interrupted as answer_interrupted, Refused, Reply}
 use Rattle.workers.specs.declared.entry.Answer.TheVariants.{Unfinished}
 use Rattle.workers.specs.declared.entry.End.TheVariants.{Answered, Interrupted, Open}
 use Rattle.workers.specs.declared.entry.Entry.{Entry}
 use Rattle.workers.specs.declared.entry.Request.{Request}
+use Rattle.workers.specs.declared.shared.Created.{Created}
+use Rattle.workers.specs.declared.shared.Created.TheVariants.{Interrupted as creation_interrupted, Queue, Refused as creation_refused}
 
 -- where a start has neither a reply nor a refusal its call is under way
 pub under_way_begun : (old : List Entry) (r : Request) (began : Result (Option AnyReply) Refusal) (begun : List Entry)
@@ -59,3 +62,15 @@ settled_replies reply given r is settled =
 pub settled_refused : (reply : AnyReply) (refusal : Refusal) (r : Result (Option AnyReply) Refusal) → r ≡ Err refusal
     → IsSettledStart reply r → is_settled_refusal refusal ≡ true
 settled_refused reply refusal r is settled = subst (IsSettledStart reply) is settled
+
+-- what is so is so where something was made
+pub if_made : {P : Type 0} (answer : Answer) → P → IfMade answer P
+if_made (Reply reply) is = is
+if_made (Refused refusal) is = tt
+if_made answer_interrupted is = is
+if_made Unfinished is = is
+
+pub if_creation_begun : {P : Type 0} (created : Created) → P → IfCreationBegun created P
+if_creation_begun (Queue slot) is = is
+if_creation_begun (creation_refused refusal) is = tt
+if_creation_begun creation_interrupted is = is

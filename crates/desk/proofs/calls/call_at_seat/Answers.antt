@@ -22,7 +22,8 @@ returns-clause-is g c =
     let seat = c.settled-seat.result.0 in
     let call = c.call-seat in
     rw c.on_wire.ensures
-    (subst (λ (k : Client). IsCallAnswer first call.result.1 k c.args.asked (answer_on_wire call.result.2))
+    (subst (λ (k : Client). IsCallAnswer first c.args.before call.result.1 k c.args.asked (answer_on_wire call.result.2))
     c.settled-seat.ensures.client
-    (call_answer first call.result.1 seat.client seat.list.items call.result.0.list.items c.args.asked c.in-Some.name
-    call.result.2 c.in-Some.is call.ensures.entry call.ensures.marked call.ensures.refused))
+    (call_answer first c.args.before call.result.1 seat.client seat.list.items call.result.0.list.items c.args.asked
+    c.in-Some.name c.in-Some.is call.result.2 call.ensures.entry call.ensures.marked call.ensures.since
+    call.ensures.refused))

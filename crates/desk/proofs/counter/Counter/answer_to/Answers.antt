@@ -1,8 +1,7 @@
 use Rattle.std.proofs.Common.{refl, subst, sym}
 use Rattle.wire.specs.declared.request.Request.{Request}
-use Rattle.workers.proofs.Facts.{later_itself}
+use Rattle.workers.proofs.Facts.{between_at, later_itself}
 use Rattle.desk.specs.Answering.{IsAnsweredBetween}
-use Rattle.desk.proofs.Turns.{between_at}
 use Rattle.desk.proofs.counter.Counter.answer_to.Goals as goal
 
 pub returns-in-Create : goal.returns-in-Create

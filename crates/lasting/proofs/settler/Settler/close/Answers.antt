@@ -1,4 +1,5 @@
 use Rattle.std.proofs.Common.{sym, ◌∙◌}
+use Rattle.workers.specs.Moments.{GoesOnLater}
 use Rattle.lasting.specs.Lasting.{EndsAtMomentOf}
 use Rattle.lasting.proofs.Moments.{on_ok}
 use Rattle.lasting.proofs.settler.Settler.close.Goals as goal
@@ -7,3 +8,8 @@ pub returns-clause-ends : goal.returns-clause-ends
 returns-clause-ends g c =
     on_ok (EndsAtMomentOf g.J.Naming.first c.close-session.result.0 c.close-session.result.1) c.close-session.result.2
     (sym c.is_err.ensures.value ∙ c.if-is_err.false) c.close-session.ensures.ends
+
+pub returns-clause-later : goal.returns-clause-later
+returns-clause-later g c =
+    on_ok (GoesOnLater c.self.kept.last c.close-session.result.0) c.close-session.result.2
+    (sym c.is_err.ensures.value ∙ c.if-is_err.false) c.close-session.ensures.later

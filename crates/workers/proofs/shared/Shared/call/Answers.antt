@@ -1,7 +1,8 @@
 use Rattle.std.proofs.Common.{◌∙◌, ap, Ok}
+use Rattle.workers.proofs.guard.Betweens.{between_further}
 use Rattle.workers.proofs.guard.Laters.{later_itself, later_still}
 use Rattle.workers.proofs.lists.Answers.{begun_open, remembers, settled_refused, settled_replies, settled_runs_not}
-use Rattle.workers.proofs.lists.Answers.{under_way_begun}
+use Rattle.workers.proofs.lists.Answers.{if_made, under_way_begun}
 use Rattle.workers.proofs.shared.Shared.call.Goals as goal
 
 pub go_on_marked-requires : goal.go_on_marked-requires
@@ -43,3 +44,12 @@ pub returns-in-Ok-None-clause-later : goal.returns-in-Ok-None-clause-later
 returns-in-Ok-None-clause-later g c =
     later_still c.args.before c.begin-seat.result.1 c.go_on_marked.result.1 c.begin-seat.ensures.later
     c.go_on_marked.ensures.later
+
+pub returns-in-Ok-None-clause-since : goal.returns-in-Ok-None-clause-since
+returns-in-Ok-None-clause-since g c =
+    let begun = c.begin-seat in
+    let on = c.go_on_marked in
+    let same = c.with_room-seat.ensures.same in
+    if_made on.result.2
+    (rw (← same.0) (rw (← same.1)
+    (between_further c.args.before begun.result.1 on.result.1 begun.ensures.since on.ensures.later)))

@@ -1,6 +1,6 @@
 use Rattle.std.proofs.Common.{sym, true≢false, ◌∙◌}
-use Rattle.workers.specs.Seen.{WasDown}
-use Rattle.workers.proofs.guard.Downs.{down_by_none, down_by_step, down_further, down_since, down_told}
+use Rattle.workers.proofs.guard.Betweens.{between_further, between_since}
+use Rattle.workers.proofs.guard.Downs.{done_so, down_by_none, down_told}
 use Rattle.workers.proofs.guard.Laters.{later_itself, later_still}
 use Rattle.workers.proofs.shared.Shared.recover.Goals as goal
 
@@ -14,8 +14,8 @@ returns-in-Some-told_of_recovery-clause-down g c =
     let now = step.result.0 in
     down_told c.loop.begun step.result.1 c.in-Some-told_of_recovery.told
     (sym c.told_of_recovery.ensures.told ∙ c.in-Some-told_of_recovery.is)
-    (down_by_step step.result.1 (λ down. down_since c.args.before c.loop.marked now i.later down) step.ensures.down)
-    (λ begun. down_further c.args.before c.loop.marked now (i.down begun) step.ensures.later)
+    (done_so step.result.1 (λ down. between_since c.args.before c.loop.marked now i.later down) step.ensures.down)
+    (λ begun. between_further c.args.before c.loop.marked now (i.down begun) step.ensures.later)
 
 pub returns-in-Some-told_of_recovery-clause-later : goal.returns-in-Some-told_of_recovery-clause-later
 returns-in-Some-told_of_recovery-clause-later g c =
@@ -30,7 +30,7 @@ loop-preserved g c =
     record {
       later = later_still c.args.before c.loop.marked now i.later step.ensures.later;
       down = λ begun.
-          down_since c.args.before c.loop.marked now i.later
+          between_since c.args.before c.loop.marked now i.later
           (down_by_none c.loop.begun step.result.1 (sym c.told_of_recovery.ensures.told ∙ c.in_default.is)
           step.ensures.down);
     }

@@ -6,7 +6,7 @@ use Rattle.named.specs.Slots.{IsWhyUnread}
 use Rattle.workers.specs.Refusals.{IsWhyNoUsage}
 use Rattle.workers.specs.declared.looks.Usage.{Usage}
 use Rattle.workers.proofs.histories.Renewals.{usage_is, usage_refused}
-use Rattle.workers.proofs.locked.Locked.usage.Goals as goal
+use Rattle.workers.proofs.locked.Locked.held.Goals as goal
 
 pub returns-in_err-content-clause-errors : goal.returns-in_err-content-clause-errors
 returns-in_err-content-clause-errors g c =
