@@ -1,8 +1,8 @@
 #!/usr/bin/env bash
 # The examples as a user runs them: clients of one `pqd serve`, which is stopped at the end and leaves an image. What
 # each prints is compared to the letter with tests/examples/NAME.out. It takes the program that the last `rt ci`, or
-# `rt run` in crates/pqd, left. The client in shell needs `nc` (netcat-openbsd) and `jq`; where they are not there, it is
-# left out, which is said.
+# `rt run` in crates/pqd, left. The client in shell needs `nc` (netcat-openbsd) and `jq`, and the unit `systemd-analyze`;
+# where they are not there, these are left out, which is said.
 set -eu
 cd "$(dirname "$0")/.."
 . tests/cases.sh
@@ -40,15 +40,24 @@ else
     sed -i 's/,{"kind":"durable","queue":"lines"}//' "$work/image.out"
 fi
 
-exec 3<> "/dev/tcp/127.0.0.1/$port"
-printf '{"op":"stop"}\n' >&3
-cat <&3 > "$work/out"
-exec 3>&-
+# It is stopped as its unit for systemd says, whose quotes are systemd's.
+bash -c "$(sed -n "s/^ExecStop=[^ ]* -c '\(.*\)'\$/\1/p" examples/systemd/pqd.service | sed "s/7070/$port/" | xargs -0 printf '%b')" \
+    > "$work/out"
 status=0
 wait "$server" || status=$?
 # The process that resume.py kills may leave a connection that fails.
 grep -v 'a connection ended: 26 ReadFailed$' "$work/warned" > "$work/err" || true
 compare stop 0 "$status" tests/examples/stop.out /dev/null
+
+# systemd takes the unit.
+if command -v systemd-analyze > /dev/null; then
+    sed "s#/usr/local/bin/pqd#$(realpath "$pqd")#" examples/systemd/pqd.service > "$work/pqd.service"
+    status=0
+    systemd-analyze verify "$work/pqd.service" > "$work/verified" 2>&1 || status=$?
+    judge examples/systemd/pqd.service "$([ "$status" -eq 0 ] || cat "$work/verified")"
+else
+    leave_out 'examples/systemd/pqd.service, which needs systemd-analyze'
+fi
 
 # The image is that of the queues that the clients made.
 status=0
