@@ -1,6 +1,6 @@
 -- What a client's call is answered, between two marks.
 use Rattle.std.proofs.Common.{◌≡◌, ◌<◌, ◌≤◌, ◌∙◌, true, ℕ, List, Option, None, Some, Result, Err, Ok, ap, inl, inr, refl, subst, sym}
-use Rattle.std.specs.Prelude.{◌↔◌, IfSome, IsNone}
+use Rattle.std.specs.Prelude.{◌↔◌, IfSome, IsNone, OnOk}
 use Rattle.std.proofs.lemmas.Bool.{cases_lt}
 use Rattle.words.specs.declared.call.Client.{Client}
 use Rattle.words.specs.declared.refusal.Refusal.{Refusal}
@@ -11,6 +11,7 @@ use Rattle.session.specs.Sessions.{Sessioned}
 use Rattle.wire.specs.declared.answer.Answer.{Answer}
 use Rattle.wire.specs.declared.answer.Answer.TheVariants.{Refused, Told as told_answer}
 use Rattle.workers.specs.Moments.{GoesOnLater}
+use Rattle.workers.specs.Seen.{IsRenewedBetween}
 use Rattle.workers.proofs.Facts.{between_at, between_since, between_weaker, later_itself, later_still}
 use Rattle.desk.specs.Answering.{IsCallAnswer, IsCalledBetween, IsCalledOf, IsTellingIn, IsToldOf, OfClient, Says, answer_as}
 use Rattle.desk.specs.Answering.{IsWhyUnrenewed}
@@ -105,3 +106,16 @@ pub told_on_wire : (clients : ℕ) (b : Brokered) (number : ℕ) (queue : Option
     (λ client. Says told_answer (answer_as told_answer result) (IsTellingIn b client queue))
 told_on_wire clients b number queue result (inl none) = inl (none.0, ap (answer_as told_answer) none.1)
 told_on_wire clients b number queue result (inr some) = inr (some.0, record { result = result; is = refl; made = some.1 })
+
+-- a queue that was renewed behind a mark was so behind each earlier one
+pub renewed_since : {A : Type 0} {slot : ℕ} (earlier before now : Sessioned) (result : Result A Refusal) (done : A)
+    → result ≡ Ok done → GoesOnLater earlier before → OnOk result (IsRenewedBetween before now slot)
+    → IsRenewedBetween earlier now slot
+renewed_since {A} {slot} earlier before now result done is on so =
+    let renewed = subst (λ (r : Result A Refusal). OnOk r (IsRenewedBetween before now slot)) is so in
+    record {
+      session = renewed.session;
+      earlier = later_still earlier before renewed.session on renewed.earlier;
+      renewed = renewed.renewed;
+      ready = renewed.ready;
+    }

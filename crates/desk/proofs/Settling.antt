@@ -62,6 +62,7 @@ module _ (first before s : Sessioned) (client : Client) (old new : List Entry) (
     (there : asked.queue ≡ Some name) where
   call_made : (end : End) → HasOneMore old (call_in name asked) end new → IsMarkedBy first client new s
       → HadCalled first client old before s → IsCallMade first before s client asked end
+  unfolding last_call
   call_made end more marked since =
       record { list = new; last = last_call old new asked name end there more; marked = marked; since = since }
 

@@ -291,11 +291,12 @@ moment_now first last j until =
 pub kept_whole : (key base : List ℕ) (j : OnDevice) → IsOf key base [] 0 j → j.kept ≡ j.size
 kept_whole key base j of = of.kept ∙ sym of.size
 
--- what an answer that is no refusal says
+-- what is so is so of an answer
 pub ok_so : {A P : Type 0} {E : Type 0} (result : Result A E) → P → OnOk result P
 ok_so (Ok done) so = so
 ok_so (Err e) so = tt
 
+-- what an answer that is no refusal says
 pub on_ok : {T : Type 0} (P : Type 0) (answer : Result T Refusal) → is_err answer ≡ false → OnOk answer P → P
 on_ok {T} P (Ok done) fine holds = holds
 on_ok {T} P (Err refusal) fine holds = absurd (true≢false fine)
@@ -525,7 +526,8 @@ kept_assures first k s is there = record {
 -- and the last hand-on goes on from it
 pub kept_heard : (first : Sessioned) (k : Kept) (s : Sessioned) → IsKept first k → Contains k.assured s → GoesOnLater s k.last
 kept_heard first k s is there =
-    later_still s (sure_session first k.journal k.policy is.journal.has) k.last (kept_assures first k s is there).later
+    let sure = sure_session first k.journal k.policy is.journal.has in
+    later_still s sure k.last (All-contains (λ t. GoesOnLater t sure) k.assured s is.assured there)
     (sure_before first k.last k.policy k.journal is.journal)
 
 -- it goes on as its words and no batch

@@ -22,8 +22,8 @@ ended-journal-requires g c =
     c.in-Ok.batch.items c.close_handing_on-session.result.1.assured c.kept.invariant none (rw is at e.row)
     (rw is at e.moment) (rw is at e.later) e.assured
 
-pub returns-in-Ok-clause-later : goal.returns-in-Ok-clause-later
-returns-in-Ok-clause-later g c =
+pub returns-clause-later : goal.returns-clause-later
+returns-clause-later g c =
     let e = c.close_handing_on-session.ensures in
     let is = c.in-Ok.is in
     let handed = c.close_handing_on-session.result.1 in

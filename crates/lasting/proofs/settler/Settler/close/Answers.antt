@@ -1,6 +1,7 @@
-use Rattle.std.proofs.Common.{sym, ◌∙◌}
+use Rattle.std.proofs.Common.{subst, sym, ◌∙◌}
 use Rattle.workers.specs.Moments.{GoesOnLater}
 use Rattle.lasting.specs.Lasting.{EndsAtMomentOf}
+use Rattle.lasting.specs.Settling.{Settled}
 use Rattle.lasting.proofs.Moments.{on_ok}
 use Rattle.lasting.proofs.settler.Settler.close.Goals as goal
 
@@ -11,5 +12,5 @@ returns-clause-ends g c =
 
 pub returns-clause-later : goal.returns-clause-later
 returns-clause-later g c =
-    on_ok (GoesOnLater c.self.kept.last c.close-session.result.0) c.close-session.result.2
-    (sym c.is_err.ensures.value ∙ c.if-is_err.false) c.close-session.ensures.later
+    subst (λ (s : Settled). GoesOnLater s.kept.last c.close-session.result.0) c.self.view_is
+    (on_ok _ c.close-session.result.2 (sym c.is_err.ensures.value ∙ c.if-is_err.false) c.close-session.ensures.later)
