@@ -34,7 +34,44 @@ def value_line(draw, bent):
     ), values
 
 
-LAWS = {"value_line": value_line}
+def is_given(values, given):
+    """Each has a take of its own in its range, and the earlier of two the earlier one, if its range ends no later."""
+    return len(set(given)) == len(given) and all(
+        given[v] < given[w]
+        for v in range(len(given))
+        for w in range(v + 1, len(given))
+        if all(one <= other for one, other in zip(values[v], values[w]))
+    )
+
+
+def overfull(values, takes, bent):
+    spare = bent == "one_more"
+    return any(
+        sum(first <= low and high <= last for low, high in values) > max(last - first, 0) + spare
+        for first, last in product(range(takes + 2), repeat=2)
+    )
+
+
+def ranges(draw, bent):
+    """Each value has a take in its range, or a range has more values than takes."""
+    values = [(draw.randint(0, 4), draw.randint(0, 4)) for _ in range(draw.randint(1, 4))]
+    given = any(is_given(values, given) for given in product(*(range(low, high) for low, high in values)))
+    return given or overfull(values, 4, bent), values
+
+
+def fitting(draw, bent):
+    """Of sorted takes those that end behind one place and begin before another are a range."""
+    takes = [drawn_span(draw, 5) for _ in range(draw.randint(1, 4))]
+    begins, ends = zip(*takes)
+    begins = begins if bent == "begins" else sorted(begins)
+    ends = ends if bent == "ends" else sorted(ends)
+    release, limit = draw.randint(0, 5), draw.randint(0, 5)
+    over, begun = sum(end <= release for end in ends), sum(begin < limit for begin in begins)
+    fit = [release < end and begin < limit for begin, end in zip(begins, ends)]
+    return fit == [over <= k < begun for k in range(len(takes))], begins, ends, release, limit
+
+
+LAWS = {"value_line": value_line, "ranges": ranges, "fitting": fitting}
 
 
 def main(law, bent=None):

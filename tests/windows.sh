@@ -17,4 +17,6 @@ law() {
 }
 
 law value_line two turned
+law ranges one_more
+law fitting begins ends
 count

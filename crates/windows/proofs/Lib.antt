@@ -1,3 +1,5 @@
 mod Counts
 mod Least
 mod Lines
+mod Given
+mod Ranges

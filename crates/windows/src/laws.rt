@@ -1,7 +1,8 @@
 //! Laws on windows, numbers of takes and moments.
 // A law's clause begins with all that it speaks of, so some of them are longer than 120 columns.
 
-ghost use Rattle.std.specs.Prelude.{ℕ, List, Bool};
+ghost use Rattle.std.specs.Prelude.{ℕ, ◌<◌, ◌≤◌, ◌↔◌, ◌⊎◌, List, Bool};
+ghost use Rattle.windows.specs.Takes.{AreGiven, AreSorted, IsOverfull, begun_before, over_by};
 ghost use Rattle.windows.specs.Windows.{HaveNoTwo, IsLeft, IsLine, MayGoNext, Window};
 
 /// Where no two values must each go before the other, there are no longer circles either: one of those that are left
@@ -15,4 +16,20 @@ pub fn some_value_may_go_next()
 pub fn values_have_a_line()
     ensures { (n : ℕ) (window : ℕ → Window) (left : ℕ → Bool)
         → HaveNoTwo n window → (line : List ℕ) × IsLine n window left line }
+{}
+
+/// Each value that is left may have one of a range of takes: then each has one of its own, or else there is a range
+/// in which more of them lie than there are takes.
+pub fn takes_suffice_or_a_range_is_overfull()
+    ensures { (n : ℕ) (left : ℕ → Bool) (low high : ℕ → ℕ)
+        → ((give : ℕ → ℕ) × AreGiven n left low high give)
+        ⊎ ((from : ℕ) × ((to : ℕ) × IsOverfull n left low high from to)) }
+{}
+
+/// Where takes are sorted by begin and by end, those that end behind one place and begin before another are a range.
+pub fn fitting_takes_are_a_range()
+    ensures { (m : ℕ) (begins ends : ℕ → ℕ) (release limit k : ℕ)
+        → AreSorted m begins ends → k < m
+        → ((release < ends k) × (begins k < limit))
+        ↔ ((over_by m ends release ≤ k) × (k < begun_before m begins limit)) }
 {}

@@ -3,4 +3,7 @@
 
 mod laws;
 
-pub use laws::{some_value_may_go_next, values_have_a_line};
+pub use laws::{
+    fitting_takes_are_a_range, some_value_may_go_next, takes_suffice_or_a_range_is_overfull,
+    values_have_a_line,
+};
