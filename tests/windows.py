@@ -71,7 +71,46 @@ def fitting(draw, bent):
     return fit == [over <= k < begun for k in range(len(takes))], begins, ends, release, limit
 
 
-LAWS = {"value_line": value_line, "ranges": ranges, "fitting": fitting}
+def overfull_in(ranges, first, last):
+    return sum(first <= low and high <= last for low, high in ranges) > max(last - first, 0)
+
+
+def limited(values, begun, moments):
+    """The ranges of values, if the queue is to be empty at the moments: those that are in by one are taken by takes begun
+    by then."""
+    return [
+        (low, min([high, *(begun[moment] for moment in moments if is_in <= moment)])) for low, high, is_in in values
+    ]
+
+
+def drawn_moments(draw):
+    values = [(draw.randint(0, 3), draw.randint(0, 4), draw.randint(0, 5)) for _ in range(draw.randint(1, 5))]
+    return values, [draw.randint(0, 4) for _ in range(6)], draw.randint(0, 4), draw.randint(0, 4)
+
+
+def moments(draw, bent):
+    """A range that is too short with several moments is so with none, or with one of them."""
+    values, begun, first, last = drawn_moments(draw)
+    at = draw.sample(range(6), draw.randint(0, 3))
+    if not overfull_in(limited(values, begun, at), first, last):
+        return None
+    alone = [[]] + [[moment] for moment in at][bent == "first_left_out" :]
+    return any(overfull_in(limited(values, begun, it), first, last) for it in alone), values, begun, at, first, last
+
+
+def crowded(draw, bent):
+    """A range that is too short with one moment is so without it, or too many values are in by then."""
+    values, begun, first, last = drawn_moments(draw)
+    moment = draw.randint(0, 5)
+    if any(v[2] < w[2] and v[1] > w[1] for v in values for w in values) and bent != "ends":
+        return None
+    if not overfull_in(limited(values, begun, [moment]), first, last):
+        return None
+    ins = sum(first <= low and is_in < moment + (bent != "in_before") for low, _, is_in in values)
+    return ins > max(begun[moment] - first, 0) or overfull_in(limited(values, begun, []), first, last), values, begun, moment
+
+
+LAWS = {"moments": moments, "crowded": crowded, "value_line": value_line, "ranges": ranges, "fitting": fitting}
 
 
 def main(law, bent=None):

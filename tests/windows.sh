@@ -19,4 +19,6 @@ law() {
 law value_line two turned
 law ranges one_more
 law fitting begins ends
+law moments first_left_out
+law crowded ends in_before
 count

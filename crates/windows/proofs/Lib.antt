@@ -3,3 +3,4 @@ mod Least
 mod Lines
 mod Given
 mod Ranges
+mod Apart

@@ -2,3 +2,4 @@ pub mod Counting
 pub mod Lists
 pub mod Windows
 pub mod Takes
+pub mod Moments

@@ -2,6 +2,8 @@
 // A law's clause begins with all that it speaks of, so some of them are longer than 120 columns.
 
 ghost use Rattle.std.specs.Prelude.{ℕ, ◌<◌, ◌≤◌, ◌↔◌, ◌⊎◌, List, Bool};
+ghost use Rattle.windows.specs.Lists.{IsAmong};
+ghost use Rattle.windows.specs.Moments.{EndsByIns, IsCrowded, high_at, high_at_all};
 ghost use Rattle.windows.specs.Takes.{AreGiven, AreSorted, IsOverfull, begun_before, over_by};
 ghost use Rattle.windows.specs.Windows.{HaveNoTwo, IsLeft, IsLine, MayGoNext, Window};
 
@@ -32,4 +34,22 @@ pub fn fitting_takes_are_a_range()
         → AreSorted m begins ends → k < m
         → ((release < ends k) × (begins k < limit))
         ↔ ((over_by m ends release ≤ k) × (k < begun_before m begins limit)) }
+{}
+
+/// Moments are independent: where takes do not suffice with all of them, they do not suffice without them, or with one
+/// of them alone.
+pub fn moments_are_independent()
+    ensures { (n : ℕ) (left : ℕ → Bool) (low high in_by begun : ℕ → ℕ) (moments : List ℕ) (from to : ℕ)
+        → IsOverfull n left low (high_at_all high in_by begun moments) from to
+        → IsOverfull n left low high from to
+        ⊎ ((moment : ℕ) × (IsAmong moment moments
+        × IsOverfull n left low (high_at high in_by begun moment) from to)) }
+{}
+
+/// Where takes do not suffice with one moment, they do not suffice without it, or too many values are in by then.
+pub fn one_moment_is_crowded()
+    ensures { (n : ℕ) (left : ℕ → Bool) (low high in_by begun : ℕ → ℕ) (moment from to : ℕ)
+        → EndsByIns n left high in_by
+        → IsOverfull n left low (high_at high in_by begun moment) from to
+        → IsOverfull n left low high from to ⊎ IsCrowded n left low in_by begun from moment }
 {}
