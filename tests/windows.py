@@ -110,7 +110,50 @@ def crowded(draw, bent):
     return ins > max(begun[moment] - first, 0) or overfull_in(limited(values, begun, []), first, last), values, begun, moment
 
 
-LAWS = {"moments": moments, "crowded": crowded, "value_line": value_line, "ranges": ranges, "fitting": fitting}
+def runs(queue, steps):
+    queue = list(queue)
+    for step, value in steps:
+        if step == "put":
+            queue.append(value)
+        elif step == "got" and queue[:1] == [value]:
+            queue.pop(0)
+        elif step == "got" or queue:
+            return False
+    return True
+
+
+def drawn_run(draw):
+    base = [draw.randint(1, 3) for _ in range(draw.randint(0, 2))]
+    queue, steps = list(base), []
+    for _ in range(draw.randint(0, 6)):
+        if draw.random() < 0.5:
+            steps.append(("put", draw.randint(1, 3)))
+            queue.append(steps[-1][1])
+        else:
+            steps.append(("got", queue.pop(0)) if queue else ("nothing", 0))
+    return base, steps
+
+
+def dropping(draw, bent):
+    """A run is one without all that was done with some values, and without some takes that found nothing."""
+    queue, steps = drawn_run(draw)
+    keep = [value for value in (1, 2, 3) if draw.random() < 0.6]
+    out = ("put",) if bent == "puts_alone" else ("put", "got")
+    fewer = [
+        it for it in steps if (it[0] not in out or it[1] in keep) and (it[0] != "nothing" or draw.random() < 0.5)
+    ]
+    return runs([value for value in queue if value in keep], fewer), queue, steps, fewer
+
+
+def last_takes(draw, bent):
+    """A run is one without its last takes."""
+    queue, steps = drawn_run(draw)
+    since = draw.randint(0, len(steps))
+    rest = [it for it in steps[since:] if it[0] == "put" or bent == "nothing_stays" and it[0] == "nothing"]
+    return runs(queue, steps[:since] + rest), queue, steps, since
+
+
+LAWS = {"dropping": dropping, "last_takes": last_takes, "moments": moments, "crowded": crowded, "value_line": value_line, "ranges": ranges, "fitting": fitting}
 
 
 def main(law, bent=None):

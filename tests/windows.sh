@@ -21,4 +21,6 @@ law ranges one_more
 law fitting begins ends
 law moments first_left_out
 law crowded ends in_before
+law dropping puts_alone
+law last_takes nothing_stays
 count

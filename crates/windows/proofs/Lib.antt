@@ -4,3 +4,4 @@ mod Lines
 mod Given
 mod Ranges
 mod Apart
+mod Dropping

@@ -3,3 +3,4 @@ pub mod Lists
 pub mod Windows
 pub mod Takes
 pub mod Moments
+pub mod Runs

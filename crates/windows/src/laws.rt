@@ -1,9 +1,10 @@
 //! Laws on windows, numbers of takes and moments.
 // A law's clause begins with all that it speaks of, so some of them are longer than 120 columns.
 
-ghost use Rattle.std.specs.Prelude.{ℕ, ◌<◌, ◌≤◌, ◌↔◌, ◌⊎◌, List, Bool};
+ghost use Rattle.std.specs.Prelude.{ℕ, ◌<◌, ◌≤◌, ◌↔◌, ◌⊎◌, ◌++◌, List, Bool};
 ghost use Rattle.windows.specs.Lists.{IsAmong};
 ghost use Rattle.windows.specs.Moments.{EndsByIns, IsCrowded, high_at, high_at_all};
+ghost use Rattle.windows.specs.Runs.{LeavesOut, Runs, Step, kept_of, puts_of};
 ghost use Rattle.windows.specs.Takes.{AreGiven, AreSorted, IsOverfull, begun_before, over_by};
 ghost use Rattle.windows.specs.Windows.{HaveNoTwo, IsLeft, IsLine, MayGoNext, Window};
 
@@ -52,4 +53,17 @@ pub fn one_moment_is_crowded()
         → EndsByIns n left high in_by
         → IsOverfull n left low (high_at high in_by begun moment) from to
         → IsOverfull n left low high from to ⊎ IsCrowded n left low in_by begun from moment }
+{}
+
+/// A run of the queue is still one without all that was done with some of its values, and without some takes that found
+/// nothing: so a put of which nobody got the value may be left out, with or without its take, and so may an open Empty.
+pub fn dropped_values_change_nothing()
+    ensures { (keep : ℕ → Bool) (queue : List ℕ) (steps fewer : List Step)
+        → LeavesOut keep steps fewer → Runs queue steps → Runs (kept_of keep queue) fewer }
+{}
+
+/// So may the takes behind which there are none that are kept.
+pub fn last_takes_may_be_dropped()
+    ensures { (queue : List ℕ) (steps rest : List Step)
+        → Runs queue (steps ++ rest) → Runs queue (steps ++ puts_of rest) }
 {}
