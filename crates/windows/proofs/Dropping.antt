@@ -49,30 +49,30 @@ dropped keep queue (put v ∷ steps) fewer (drops_put fail rest) runs =
     (kept_last keep queue v ∙ ap (λ (xs : List ℕ). kept_of keep queue ++ xs) (dropped_first keep v [] fail)
     ∙ append_none (kept_of keep queue))
     (dropped keep (queue ++ v ∷ []) steps fewer rest runs)
-dropped keep [] (got v ∷ steps) fewer (keeps_got pass rest) runs = absurd runs
-dropped keep [] (got v ∷ steps) fewer (drops_got fail rest) runs = absurd runs
-dropped keep (first ∷ queue) (got v ∷ steps) (got _ ∷ more) (keeps_got pass rest) runs =
-    runs_same (first ∷ kept_of keep queue) (kept_of keep (first ∷ queue)) (got v ∷ more)
+dropped keep [] (got t v ∷ steps) fewer (keeps_got pass rest) runs = absurd runs
+dropped keep [] (got t v ∷ steps) fewer (drops_got fail rest) runs = absurd runs
+dropped keep (first ∷ queue) (got t v ∷ steps) (got _ _ ∷ more) (keeps_got pass rest) runs =
+    runs_same (first ∷ kept_of keep queue) (kept_of keep (first ∷ queue)) (got t v ∷ more)
     (sym (kept_first keep first queue (ap keep runs.0 ∙ pass)))
     (runs.0, dropped keep queue steps more rest runs.1)
-dropped keep (first ∷ queue) (got v ∷ steps) fewer (drops_got fail rest) runs =
+dropped keep (first ∷ queue) (got t v ∷ steps) fewer (drops_got fail rest) runs =
     runs_same (kept_of keep queue) (kept_of keep (first ∷ queue)) fewer
     (sym (dropped_first keep first queue (ap keep runs.0 ∙ fail)))
     (dropped keep queue steps fewer rest runs.1)
-dropped keep queue (nothing ∷ steps) (nothing ∷ more) (keeps_nothing rest) runs =
+dropped keep queue (nothing t ∷ steps) (nothing _ ∷ more) (keeps_nothing rest) runs =
     (ap (kept_of keep) runs.0, dropped keep queue steps more rest runs.1)
-dropped keep queue (nothing ∷ steps) fewer (drops_nothing rest) runs = dropped keep queue steps fewer rest runs.1
+dropped keep queue (nothing t ∷ steps) fewer (drops_nothing rest) runs = dropped keep queue steps fewer rest runs.1
 
 puts_run : (queue : List ℕ) (steps : List Step) → Runs queue (puts_of steps)
 puts_run queue [] = tt
 puts_run queue (put v ∷ rest) = puts_run (queue ++ v ∷ []) rest
-puts_run queue (got v ∷ rest) = puts_run queue rest
-puts_run queue (nothing ∷ rest) = puts_run queue rest
+puts_run queue (got t v ∷ rest) = puts_run queue rest
+puts_run queue (nothing t ∷ rest) = puts_run queue rest
 
 pub last_dropped : (queue : List ℕ) (steps rest : List Step) → Runs queue (steps ++ rest)
     → Runs queue (steps ++ puts_of rest)
 last_dropped queue [] rest runs = puts_run queue rest
 last_dropped queue (put v ∷ steps) rest runs = last_dropped (queue ++ v ∷ []) steps rest runs
-last_dropped [] (got v ∷ steps) rest runs = absurd runs
-last_dropped (first ∷ queue) (got v ∷ steps) rest runs = (runs.0, last_dropped queue steps rest runs.1)
-last_dropped queue (nothing ∷ steps) rest runs = (runs.0, last_dropped queue steps rest runs.1)
+last_dropped [] (got t v ∷ steps) rest runs = absurd runs
+last_dropped (first ∷ queue) (got t v ∷ steps) rest runs = (runs.0, last_dropped queue steps rest runs.1)
+last_dropped queue (nothing t ∷ steps) rest runs = (runs.0, last_dropped queue steps rest runs.1)
