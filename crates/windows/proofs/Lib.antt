@@ -5,3 +5,6 @@ mod Given
 mod Ranges
 mod Apart
 mod Dropping
+mod Merging
+mod Points
+mod Numbers

@@ -4,3 +4,4 @@ pub mod Windows
 pub mod Takes
 pub mod Moments
 pub mod Runs
+pub mod Calls
