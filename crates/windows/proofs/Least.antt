@@ -1,7 +1,9 @@
 -- Of the numbers that pass the first with the least key.
-use Rattle.std.proofs.Common.{ℕ, zero, suc, ◌≡◌, ◌<◌, ◌≤◌, ◌⊎◌, Bool, true, false, inl, inr, arith, sym, subst}
+use Rattle.std.proofs.Common.{ℕ, zero, suc, ◌≡◌, ◌<◌, ◌≤◌, ◌⊎◌, Bool, true, false, inl, inr, refl, arith, sym, subst}
 use Rattle.std.proofs.Common.{ap, ◌∙◌}
-use Rattle.std.proofs.lemmas.Bool.{cases_lt, cases_Bool}
+use Rattle.std.specs.Prelude.{if◌then◌else◌}
+use Rattle.std.proofs.lemmas.Bool.{cases_lt, cases_Bool, cond-false}
+use Rattle.windows.specs.Counting.{how_many}
 
 pub record IsLeast (n : ℕ) (p : ℕ → Bool) (key : ℕ → ℕ) (v : ℕ) : Type 0 where
   pub below : v < n
@@ -65,3 +67,15 @@ search_least (suc n) p key = go (search_least n p key) (cases_Bool (p n))
         at w pass (inr same) = let here : p n ≡ true = ap p (sym same) ∙ pass in cc
     go (found_least v is) (inl here) = both v is here (cases_lt (key n) (key v))
     go (found_least v is) (inr not) = found_least v (stays v is (λ pass. cc))
+
+-- then none is counted
+pub none_counts : (n : ℕ) (p : ℕ → Bool) → HasNone n p → how_many p n ≡ 0
+none_counts zero p fail = refl
+none_counts (suc n) p fail =
+    let before : how_many p n ≡ 0 = none_counts n p (record { none = λ w lt pass. fail.none w (omega (arith, lt)) pass }) in
+    let here : ◌≡◌ {A = ℕ} (if p n then 1 else 0) 0 = cond-false (p n) 1 0 (by (cases_Bool (p n))) in
+    omega (arith, before, here)
+  where
+    by : (p n ≡ true) ⊎ (p n ≡ false) → p n ≡ false
+    by (inl pass) = absurd (fail.none n (omega arith) pass)
+    by (inr not) = not

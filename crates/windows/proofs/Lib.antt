@@ -8,3 +8,6 @@ mod Dropping
 mod Merging
 mod Points
 mod Numbers
+mod Paired
+mod Bounds
+mod Short
