@@ -11,3 +11,4 @@ mod Numbers
 mod Paired
 mod Bounds
 mod Short
+mod Empties
