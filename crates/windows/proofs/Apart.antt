@@ -43,10 +43,10 @@ still_overfull n left low high other from to so full =
     omega (arith, le, full)
 
 -- a value's range where it is in by a moment, and where it is not
-if_in : (x y z moment : ℕ) → z ≤ moment → (if leb z moment then x else y) ≡ x
+pub if_in : (x y z moment : ℕ) → z ≤ moment → (if leb z moment then x else y) ≡ x
 if_in x y z moment le = cond-true (leb z moment) x y (le-leb z moment le)
 
-if_not_in : (x y z moment : ℕ) → moment < z → (if leb z moment then x else y) ≡ y
+pub if_not_in : (x y z moment : ℕ) → moment < z → (if leb z moment then x else y) ≡ y
 if_not_in x y z moment lt = cond-false (leb z moment) x y (lt-leb z moment lt)
 
 module _ (high in_by begun : ℕ → ℕ) (to : ℕ) where

@@ -12,3 +12,5 @@ mod Paired
 mod Bounds
 mod Short
 mod Empties
+mod Fates
+mod Solved

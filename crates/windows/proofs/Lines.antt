@@ -11,7 +11,7 @@ use Rattle.windows.proofs.Counts.{fewer, some_passes}
 use Rattle.windows.proofs.Least.{IsLeast, HasNone, Search, found_least, found_none, search_least}
 
 -- the value whose put is over first may go next, or else the one whose take is
-pub some_next : (n : ℕ) (window : ℕ → Window) (left : ℕ → Bool) (some : ℕ) → HaveNoTwo n window → IsLeft n left some
+pub some_next : (n : ℕ) (window : ℕ → Window) (left : ℕ → Bool) (some : ℕ) → HaveNoTwo n window left → IsLeft n left some
     → (v : ℕ) × MayGoNext n window left v
 some_next n window left some rules is =
     go (search_least n left (λ v. (window v).put_to)) (search_least n left (λ v. (window v).take_to))
@@ -26,7 +26,7 @@ some_next n window left some rules is =
         at : (w : ℕ) → IsLeft n left w → MustPrecede (window w) (window a) → ⊥
         at w is_left (inl puts) =
             let le : (window a).put_to ≤ (window w).put_to = first.least w is_left.below is_left.is_left in
-            let own : (window a).put_from ≤ (window a).put_to = (rules.windows a first.below).puts in
+            let own : (window a).put_from ≤ (window a).put_to = (rules.windows a (record { below = first.below; is_left = first.passes })).puts in
             omega (arith, le, own, puts)
         at w is_left (inr takes) = so w is_left takes
 
@@ -41,7 +41,7 @@ some_next n window left some rules is =
         at w is_left (inl puts) = so w is_left puts
         at w is_left (inr takes) =
             let le : (window b).take_to ≤ (window w).take_to = first.least w is_left.below is_left.is_left in
-            let own : (window b).take_from ≤ (window b).take_to = (rules.windows b first.below).takes in
+            let own : (window b).take_from ≤ (window b).take_to = (rules.windows b (record { below = first.below; is_left = first.passes })).takes in
             omega (arith, le, own, takes)
 
     both : (a b : ℕ) → IsLeast n left (λ v. (window v).put_to) a → IsLeast n left (λ v. (window v).take_to) b
@@ -52,7 +52,8 @@ some_next n window left some rules is =
       by_take b first_out (λ w is_left puts.
           let le : (window a).put_to ≤ (window w).put_to = first_in.least w is_left.below is_left.is_left in
           let puts_before : (window a).put_to < (window b).put_from = omega (arith, le, puts) in
-          rules.no_two a b first_in.below first_out.below (inl puts_before) (inr before)),
+          rules.no_two a b (record { below = first_in.below; is_left = first_in.passes })
+        (record { below = first_out.below; is_left = first_out.passes }) (inl puts_before) (inr before)),
     )
     both a b first_in first_out (inr after) = (
       a,
@@ -117,7 +118,17 @@ none_left n window left fail = record {
   in_turn = tt;
 }
 
-line_by : (k n : ℕ) (window : ℕ → Window) (left : ℕ → Bool) → HaveNoTwo n window → how_many left n ≤ k
+rules_but : (n : ℕ) (window : ℕ → Window) (left : ℕ → Bool) (c : ℕ) → HaveNoTwo n window left
+    → HaveNoTwo n window (all_but left c)
+rules_but n window left c rules = record {
+  windows = λ v is_left. rules.windows v (older v is_left);
+  no_two = λ v w left_v left_w. rules.no_two v w (older v left_v) (older w left_w);
+}
+  where
+    older : (v : ℕ) → IsLeft n (all_but left c) v → IsLeft n left v
+    older v is_left = record { below = is_left.below; is_left = but_left left c v is_left.is_left }
+
+line_by : (k n : ℕ) (window : ℕ → Window) (left : ℕ → Bool) → HaveNoTwo n window left → how_many left n ≤ k
     → (line : List ℕ) × IsLine n window left line
 line_by zero n window left rules le = go (search_least n left (λ v. v))
   where
@@ -126,7 +137,7 @@ line_by zero n window left rules le = go (search_least n left (λ v. v))
     go (found_least v first) =
         absurd (let some : 0 < how_many left n = some_passes left n v first.below first.passes in omega (arith, some, le))
 line_by (suc k) n window left rules le =
-    go (search_least n left (λ v. v)) (λ some less. line_by k n window (all_but left some) rules less)
+    go (search_least n left (λ v. v)) (λ some less. line_by k n window (all_but left some) (rules_but n window left some rules) less)
   where
     with_next : ((v : ℕ) × MayGoNext n window left v)
         → ((v : ℕ) → how_many (all_but left v) n ≤ k → (line : List ℕ) × IsLine n window (all_but left v) line)
@@ -145,6 +156,6 @@ line_by (suc k) n window left rules le =
     go (found_least v first) again =
         with_next (some_next n window left v rules (record { below = first.below; is_left = first.passes })) again
 
-pub whole_line : (n : ℕ) (window : ℕ → Window) (left : ℕ → Bool) → HaveNoTwo n window
+pub whole_line : (n : ℕ) (window : ℕ → Window) (left : ℕ → Bool) → HaveNoTwo n window left
     → (line : List ℕ) × IsLine n window left line
 whole_line n window left rules = line_by (how_many left n) n window left rules (omega arith)

@@ -21,15 +21,16 @@ pub record IsWindow (window : Window) : Type 0 where
 abbrev pub MustPrecede : Window → Window → Type 0
 MustPrecede one other = (one.put_to < other.put_from) ⊎ (one.take_to < other.take_from)
 
--- n values have windows, and no two of them must each go before the other
-pub record HaveNoTwo (n : ℕ) (window : ℕ → Window) : Type 0 where
-  pub windows : (v : ℕ) → v < n → IsWindow (window v)
-  pub no_two : (v w : ℕ) → v < n → w < n → MustPrecede (window v) (window w) → MustPrecede (window w) (window v) → ⊥
-
 -- one of the values that are left
 pub record IsLeft (n : ℕ) (left : ℕ → Bool) (v : ℕ) : Type 0 where
   pub below : v < n
   pub is_left : left v ≡ true
+
+-- those have windows, and no two of them must each go before the other
+pub record HaveNoTwo (n : ℕ) (window : ℕ → Window) (left : ℕ → Bool) : Type 0 where
+  pub windows : (v : ℕ) → IsLeft n left v → IsWindow (window v)
+  pub no_two : (v w : ℕ) → IsLeft n left v → IsLeft n left w → MustPrecede (window v) (window w)
+      → MustPrecede (window w) (window v) → ⊥
 
 -- it is left, and none that is left must go before it
 pub record MayGoNext (n : ℕ) (window : ℕ → Window) (left : ℕ → Bool) (v : ℕ) : Type 0 where

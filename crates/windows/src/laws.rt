@@ -12,13 +12,13 @@ ghost use Rattle.windows.specs.Windows.{HaveNoTwo, IsLeft, IsLine, MayGoNext, Wi
 /// may go next.
 pub fn some_value_may_go_next()
     ensures { (n : ℕ) (window : ℕ → Window) (left : ℕ → Bool) (some : ℕ)
-        → HaveNoTwo n window → IsLeft n left some → (v : ℕ) × MayGoNext n window left v }
+        → HaveNoTwo n window left → IsLeft n left some → (v : ℕ) × MayGoNext n window left v }
 {}
 
 /// So they have a whole line.
 pub fn values_have_a_line()
     ensures { (n : ℕ) (window : ℕ → Window) (left : ℕ → Bool)
-        → HaveNoTwo n window → (line : List ℕ) × IsLine n window left line }
+        → HaveNoTwo n window left → (line : List ℕ) × IsLine n window left line }
 {}
 
 /// Each value that is left may have one of a range of takes: then each has one of its own, or else there is a range
