@@ -1,9 +1,9 @@
 -- From where and until where missing values can be taken, and which open takes fit.
-use Rattle.std.proofs.Common.{ℕ, zero, suc, ◌≡◌, ◌≢◌, ◌<◌, ◌≤◌, ◌+◌, ◌-◌, ◌⊎◌, Bool, true, false, inl, inr, refl}
-use Rattle.std.proofs.Common.{arith, sym, subst, ap, ◌∙◌, ltb, leb}
-use Rattle.std.specs.Prelude.{◌&&◌, max, not, if◌then◌else◌}
-use Rattle.std.proofs.lemmas.Bool.{cases_lt, cases_Bool, and_parts, and_from, ltb-true, lt-ltb, leb-true, le-leb, lt-leb}
-use Rattle.std.proofs.lemmas.Bool.{cond-true, cond-false, le-ltb, not-true, not_from_false, ltb-false}
+use Rattle.std.proofs.Common.{ℕ, suc, ◌≡◌, ◌<◌, ◌≤◌, ◌+◌, ◌-◌, ◌⊎◌, Bool, true, false, inl, inr, refl}
+use Rattle.std.proofs.Common.{arith, ltb, leb}
+use Rattle.std.specs.Prelude.{◌&&◌, not, if◌then◌else◌}
+use Rattle.std.proofs.lemmas.Bool.{cases_lt, and_parts, and_from, ltb-true, lt-ltb, leb-true, le-leb, lt-leb}
+use Rattle.std.proofs.lemmas.Bool.{cond-true, cond-false, not-true, ltb-false}
 use Rattle.windows.specs.Counting.{how_many}
 use Rattle.windows.specs.Windows.{IsLeft}
 use Rattle.windows.specs.Takes.{AreSorted, over_by, begun_before}
@@ -11,10 +11,10 @@ use Rattle.windows.specs.Moments.{EndsByIns}
 use Rattle.windows.specs.Calls.{Known, no_call, put_done, put_not, put_open, took, found_nothing, take_not, take_open}
 use Rattle.windows.specs.Calls.{Calls, AreCalls, IsMissing}
 use Rattle.windows.proofs.Counts.{at_most, no_more_than}
-use Rattle.windows.proofs.Least.{IsLeast, HasNone, Search, found_least, found_none, search_least}
-use Rattle.windows.proofs.Numbers.{nth, IsNth, nth_is, nth_rank, nth_ascend}
-use Rattle.windows.proofs.Ranges.{over, begun}
-use Rattle.windows.proofs.Paired.{IsTakenBy, IsUntaken, take_of, IsOut, out_if_below, untaken_if_not, ArePaired}
+use Rattle.windows.proofs.Least.{IsLeast, Search, found_least, found_none, search_least}
+use Rattle.windows.proofs.Numbers.{nth, IsNth, nth_is, nth_ascend}
+use Rattle.windows.proofs.Ranges.{over}
+use Rattle.windows.proofs.Paired.{take_of, IsOut, out_if_below, untaken_if_not}
 
 abbrev pub is_done : Known → Bool
 is_done no_call = false
@@ -126,8 +126,13 @@ has_limit calls v = go (search_least calls.places (put_behind calls v) (λ w. ca
         record {
           at = calls.end (take_of calls w);
           each = λ x is below ahead. first.least x below (behind_from x is ahead);
-          how = inr (w, (out_if_below calls w (ltb-true (take_of calls w) calls.places both.0),
-          (ltb-true (calls.end v) w both.1, refl)));
+          how = inr (
+            w,
+            (
+              out_if_below calls w (ltb-true (take_of calls w) calls.places both.0),
+              (ltb-true (calls.end v) w both.1, refl),
+            ),
+          );
         }
     go (found_none fail) = record {
       at = suc calls.places;

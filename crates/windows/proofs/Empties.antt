@@ -1,16 +1,15 @@
 -- A moment for each take that found nothing, and takes for missing values; or else the pattern.
-use Rattle.std.proofs.Common.{ℕ, zero, suc, ◌≡◌, ◌≢◌, ◌<◌, ◌≤◌, ◌+◌, ◌-◌, ◌⊎◌, Bool, true, false, List, [], ◌∷◌, inl, inr, refl}
-use Rattle.std.proofs.Common.{arith, sym, subst, ap, ◌∙◌, ltb, leb, eqb, cond}
+use Rattle.std.proofs.Common.{ℕ, zero, suc, ◌≡◌, ◌<◌, ◌≤◌, ◌+◌, ◌-◌, ◌⊎◌, List, [], ◌∷◌, inl, inr, refl}
+use Rattle.std.proofs.Common.{arith, sym, subst, ap, ◌∙◌, leb, eqb, cond}
 use Rattle.std.specs.Prelude.{◌&&◌}
-use Rattle.std.proofs.lemmas.Bool.{cases_lt, cases_eq, cases_Bool, and_parts, leb-true, cond-true, cond-false, eq-eqb, ne_eqb}
+use Rattle.std.proofs.lemmas.Bool.{cases_lt, cases_eq, and_parts, leb-true, cond-true, cond-false, eq-eqb, ne_eqb}
 use Rattle.windows.specs.Counting.{how_many}
 use Rattle.windows.specs.Lists.{IsAmong}
-use Rattle.windows.specs.Windows.{IsLeft}
 use Rattle.windows.specs.Takes.{AreGiven, IsOverfull}
 use Rattle.windows.specs.Moments.{IsCrowded, crowds, high_at, high_at_all}
 use Rattle.windows.specs.Calls.{Known, no_call, put_done, put_not, put_open, took, found_nothing, take_not, take_open}
-use Rattle.windows.specs.Calls.{Calls, AreCalls, IsHeld, IsNotEmpty, Pattern, not_empty}
-use Rattle.windows.proofs.Least.{HasNone, none_counts}
+use Rattle.windows.specs.Calls.{Calls, AreCalls, IsHeld, Pattern, not_empty}
+use Rattle.windows.proofs.Least.{none_counts}
 use Rattle.windows.proofs.Given.{given_or_overfull}
 use Rattle.windows.proofs.Apart.{independent, crowded}
 use Rattle.windows.proofs.Paired.{IsOut, take_of, out_if_below, all_or}

@@ -1,22 +1,20 @@
 -- What becomes of each value, and that no two must each go before the other.
-use Rattle.std.proofs.Common.{ℕ, zero, suc, ◌≡◌, ◌≢◌, ◌<◌, ◌≤◌, ◌+◌, ◌*◌, ◌⊎◌, Bool, true, false, List, [], ◌∷◌, inl, inr, refl}
-use Rattle.std.proofs.Common.{arith, sym, subst, ap, ◌∙◌, ltb, leb}
-use Rattle.std.specs.Prelude.{◌&&◌, ◌||◌, max, min, not, if◌then◌else◌}
-use Rattle.std.proofs.lemmas.Bool.{cases_lt, cases_Bool, and_from, or_cases, or_left, or_right, lt-ltb, le-ltb, ltb-true}
-use Rattle.std.proofs.lemmas.Bool.{not_from_false}
+use Rattle.std.proofs.Common.{ℕ, suc, ◌≡◌, ◌<◌, ◌≤◌, ◌⊎◌, List, [], ◌∷◌, inl, inr}
+use Rattle.std.proofs.Common.{arith, ap}
+use Rattle.std.specs.Prelude.{min}
+use Rattle.std.proofs.lemmas.Bool.{cases_lt}
 use Rattle.windows.specs.Lists.{IsAmong}
-use Rattle.windows.specs.Windows.{Window, IsWindow, MustPrecede, IsLeft, HaveNoTwo}
+use Rattle.windows.specs.Windows.{IsLeft}
 use Rattle.windows.specs.Takes.{AreGiven, begun_before}
 use Rattle.windows.specs.Moments.{high_at_all}
-use Rattle.windows.specs.Calls.{Known, no_call, put_done, put_not, put_open, took, found_nothing, take_not, take_open}
-use Rattle.windows.specs.Calls.{Calls, AreCalls, IsPut}
+use Rattle.windows.specs.Calls.{Calls, AreCalls}
 use Rattle.windows.proofs.Apart.{if_in, if_not_in}
 use Rattle.windows.proofs.Ranges.{begun}
-use Rattle.windows.proofs.Paired.{IsOut, take_of, out_if_below, ArePaired}
-use Rattle.windows.proofs.Bounds.{has_release, has_limit, release, limit, low, high, is_done, done_is, open_count, begin_of}
-use Rattle.windows.proofs.Bounds.{end_of, begun_by, missing, sorted, not_early, begun_few, high_free, high_bound}
+use Rattle.windows.proofs.Paired.{IsOut, take_of, ArePaired}
+use Rattle.windows.proofs.Bounds.{has_release, has_limit, release, limit, low, high, open_count, begin_of}
+use Rattle.windows.proofs.Bounds.{end_of, begun_by, missing, sorted, not_early, begun_few, high_bound}
 use Rattle.windows.proofs.Bounds.{highs_ascend, lows_ascend, open_take}
-use Rattle.windows.proofs.Empties.{IsClear, Moments, found_nothing_or}
+use Rattle.windows.proofs.Empties.{Moments}
 
 -- ranges with all moments end no later than without, and by the takes begun by each moment by which the value is in
 module _ (highs in_by begun_at : ℕ → ℕ) where
@@ -144,8 +142,7 @@ module _ (calls : Calls) (are : AreCalls calls) (paired : ArePaired calls) (mome
       let top : high calls v ≡ begun_before (open_count calls) (begin_of calls) (limit calls v) =
       high_bound calls are v (omega (arith, first, within)) in
       let few : begun_before (open_count calls) (begin_of calls) (limit calls v) ≤ open_count calls =
-      begun_few calls are (limit calls v) in
-      (
+      begun_few calls are (limit calls v) in (
         omega (arith, less, top, few),
         (λ below. let soon : begin_of calls (give v) < limit calls v =
             (begun (open_count calls) (begin_of calls) (end_of calls) (limit calls v) (give v) (sorted calls are) below).1

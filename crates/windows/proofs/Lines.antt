@@ -53,7 +53,7 @@ some_next n window left some rules is =
           let le : (window a).put_to ≤ (window w).put_to = first_in.least w is_left.below is_left.is_left in
           let puts_before : (window a).put_to < (window b).put_from = omega (arith, le, puts) in
           rules.no_two a b (record { below = first_in.below; is_left = first_in.passes })
-        (record { below = first_out.below; is_left = first_out.passes }) (inl puts_before) (inr before)),
+          (record { below = first_out.below; is_left = first_out.passes }) (inl puts_before) (inr before)),
     )
     both a b first_in first_out (inr after) = (
       a,

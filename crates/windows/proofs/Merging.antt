@@ -1,7 +1,7 @@
 -- Values in a line, each with a point of its put and one of its take, go through the queue by these points.
 use Rattle.std.proofs.Common.{ℕ, zero, suc, ◌≡◌, ◌<◌, ◌≤◌, ◌+◌, ◌*◌, ◌⊎◌, Bool, true, false, List, [], ◌∷◌, ◌++◌, length, inl}
-use Rattle.std.proofs.Common.{inr, refl, arith, sym, subst, ap, ◌∙◌, append_assoc, length-append}
-use Rattle.std.specs.Prelude.{⊤, map}
+use Rattle.std.proofs.Common.{inr, refl, arith, sym, subst, ap, ◌∙◌, append_assoc}
+use Rattle.std.specs.Prelude.{⊤}
 use Rattle.std.proofs.lemmas.Bool.{cases_lt, cases_Bool}
 use Rattle.windows.specs.Lists.{IsAmong, AreDifferent}
 use Rattle.windows.specs.Runs.{Step, put, got, nothing, Runs}
@@ -342,8 +342,7 @@ module _ (is_empty : ℕ → Bool) (taker : ℕ → ℕ) (never : ℕ) where
   weaker a b c d [] are le_a le_b = tt
   weaker a b c d (x ∷ rest) are le_a le_b =
       let low : a ≤ x.put_at = are.0.puts in
-      let high : b ≤ x.take_at = are.0.takes in
-      (
+      let high : b ≤ x.take_at = are.0.takes in (
         record {
           puts = omega (arith, le_a, low);
           takes = omega (arith, le_b, high);

@@ -1,11 +1,10 @@
 -- The numbers that pass, as a list, and by their places among those that pass.
 use Rattle.std.proofs.Common.{ℕ, zero, suc, ◌≡◌, ◌<◌, ◌≤◌, ◌+◌, ◌⊎◌, Bool, true, false, List, [], ◌∷◌, length, inl, inr, refl}
-use Rattle.std.proofs.Common.{arith, sym, subst, ap, ◌∙◌, ltb, cond}
-use Rattle.std.specs.Prelude.{⊤, if◌then◌else◌}
-use Rattle.std.proofs.lemmas.Bool.{cases_lt, cases_Bool, ltb-true, lt-ltb, le-ltb, cond-true, cond-false}
+use Rattle.std.proofs.Common.{arith, sym, subst, ap, ◌∙◌, ltb}
+use Rattle.std.specs.Prelude.{if◌then◌else◌}
+use Rattle.std.proofs.lemmas.Bool.{cases_lt, cases_Bool, lt-ltb, le-ltb, cond-true, cond-false}
 use Rattle.windows.specs.Counting.{how_many}
 use Rattle.windows.specs.Lists.{IsAmong, AreDifferent}
-use Rattle.windows.proofs.Counts.{no_more_than}
 
 -- those below n that pass, the last one first
 

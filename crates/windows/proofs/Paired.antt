@@ -1,11 +1,11 @@
 -- Which take got which value, and that no value is invented, came out twice, or was passed over alone; or else the pattern.
-use Rattle.std.proofs.Common.{ℕ, zero, suc, ◌≡◌, ◌≢◌, ◌<◌, ◌≤◌, ◌+◌, ◌⊎◌, Bool, true, false, inl, inr, refl}
+use Rattle.std.proofs.Common.{ℕ, zero, suc, ◌≡◌, ◌<◌, ◌≤◌, ◌⊎◌, Bool, true, false, inl, inr, refl}
 use Rattle.std.proofs.Common.{arith, sym, subst, ap, ◌∙◌, eqb}
 use Rattle.std.proofs.lemmas.Bool.{cases_lt, cases_eq, eqb-true, eq-eqb}
 use Rattle.windows.specs.Calls.{Known, no_call, put_done, put_not, put_open, took, found_nothing, take_not, take_open}
-use Rattle.windows.specs.Calls.{Calls, AreCalls, IsPut, IsInvented, IsTwice, Lack, late, IsPutOf, IsPassedOver, Pattern}
+use Rattle.windows.specs.Calls.{Calls, AreCalls, late, Pattern}
 use Rattle.windows.specs.Calls.{invented, twice, passed_over}
-use Rattle.windows.proofs.Least.{IsLeast, HasNone, Search, found_least, found_none, search_least}
+use Rattle.windows.proofs.Least.{Search, found_least, found_none, search_least}
 
 -- so it is of each number below n, or something else is so
 pub all_or : {P : ℕ → Type 0} {Q : Type 0} (n : ℕ) → ((v : ℕ) → v < n → P v ⊎ Q) → ((v : ℕ) → v < n → P v) ⊎ Q

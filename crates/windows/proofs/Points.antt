@@ -1,10 +1,10 @@
 -- Values in a line go through the queue: each put and take has a point within its window.
-use Rattle.std.proofs.Common.{ℕ, zero, suc, ◌≡◌, ◌<◌, ◌≤◌, ◌+◌, ◌*◌, ◌⊎◌, Bool, true, false, List, [], ◌∷◌, ◌++◌, length, inl}
+use Rattle.std.proofs.Common.{ℕ, ◌≡◌, ◌<◌, ◌≤◌, ◌*◌, ◌⊎◌, Bool, true, false, List, [], ◌∷◌, length, inl}
 use Rattle.std.proofs.Common.{inr, refl, arith, sym, subst, ap, ◌∙◌}
-use Rattle.std.specs.Prelude.{⊤, max}
+use Rattle.std.specs.Prelude.{max}
 use Rattle.std.proofs.lemmas.Bool.{cases_lt}
 use Rattle.windows.specs.Lists.{IsAmong, AreDifferent}
-use Rattle.windows.specs.Runs.{Step, put, got, nothing, Runs}
+use Rattle.windows.specs.Runs.{put, got, nothing, Runs}
 use Rattle.windows.specs.Windows.{Window, IsWindow, MustPrecede, IsLeft, AreInTurn, IsLine}
 use Rattle.windows.proofs.Merging.{Item, Move, values_of, steps_of, AreApart, Ascend, put_of, got_of, nothing_of}
 use Rattle.windows.proofs.Merging.{IsPointed, ArePointed, IsMoveOf, is_put, is_got, is_nothing, Merged, merged}
@@ -98,8 +98,7 @@ module _ (n : ℕ) (window : ℕ → Window) (left is_empty : ℕ → Bool) (tak
       let starts : (window v).put_from ≤ (window v).take_from = (rules.windows v mine).starts in
       let again = pointed (max a (window v).put_from) (max b (window v).take_from) rest (omega (arith, le, starts))
       (λ w among. lefts w (inr among))
-      (λ w among. follows_on a b v w (follow w (inr among)) (turn.0 w among)) turn.1 in
-      (
+      (λ w among. follows_on a b v w (follow w (inr among)) (turn.0 w among)) turn.1 in (
         (first_point a b v le mine here, again.0),
         (λ x among. by x among again.1),
       )

@@ -1,23 +1,23 @@
 -- Where takes do not suffice, values were passed over, or the queue held something.
-use Rattle.std.proofs.Common.{ℕ, zero, suc, ◌≡◌, ◌≢◌, ◌<◌, ◌≤◌, ◌+◌, ◌-◌, ◌⊎◌, Bool, true, false, List, length, inl, inr, refl}
-use Rattle.std.proofs.Common.{arith, sym, subst, ap, ◌∙◌, ltb, leb, Option, Some, None}
+use Rattle.std.proofs.Common.{ℕ, zero, suc, ◌≡◌, ◌<◌, ◌≤◌, ◌+◌, ◌-◌, ◌⊎◌, Bool, true, length, inl, inr}
+use Rattle.std.proofs.Common.{arith, sym, subst, ap, leb, Option, Some, None}
 use Rattle.std.specs.Prelude.{◌&&◌}
-use Rattle.std.proofs.lemmas.Bool.{cases_lt, cases_Bool, and_parts, and_from, leb-true}
+use Rattle.std.proofs.lemmas.Bool.{cases_lt, and_parts, leb-true}
 use Rattle.windows.specs.Counting.{how_many}
 use Rattle.windows.specs.Lists.{IsAmong}
 use Rattle.windows.specs.Windows.{IsLeft}
 use Rattle.windows.specs.Takes.{IsOverfull, lies_within, begun_before}
 use Rattle.windows.specs.Moments.{IsCrowded, crowds}
-use Rattle.windows.specs.Calls.{Known, take_open, Calls, AreCalls, Lack, late, few, IsPutOf, IsInAt, AreInSince, WasOver}
-use Rattle.windows.specs.Calls.{AreFew, Lacks, IsPassedOver, IsHeld, Pattern, passed_over}
+use Rattle.windows.specs.Calls.{take_open, Calls, AreCalls, Lack, late, few, IsPutOf, IsInAt, AreInSince, WasOver}
+use Rattle.windows.specs.Calls.{Lacks, IsHeld, Pattern, passed_over}
 use Rattle.windows.proofs.Counts.{no_more_than}
-use Rattle.windows.proofs.Least.{IsLeast, HasNone, Search, found_least, found_none, search_least, none_counts}
+use Rattle.windows.proofs.Least.{IsLeast, Search, found_least, found_none, search_least, none_counts}
 use Rattle.windows.proofs.Apart.{LiesWithin, within_parts}
-use Rattle.windows.proofs.Numbers.{all_of, of_all, in_all, all_different, length_all, nth, nth_rank, grows_by}
+use Rattle.windows.proofs.Numbers.{all_of, of_all, all_different, length_all, nth_rank, grows_by}
 use Rattle.windows.proofs.Numbers.{from_on, length_from, among_from}
 use Rattle.windows.proofs.Ranges.{begun}
-use Rattle.windows.proofs.Paired.{IsOut, take_of, ArePaired}
-use Rattle.windows.proofs.Bounds.{HasRelease, HasLimit, has_release, has_limit, release, limit, low, high, open_at, is_open}
+use Rattle.windows.proofs.Paired.{IsOut, take_of}
+use Rattle.windows.proofs.Bounds.{has_release, has_limit, release, limit, low, high, open_at, is_open}
 use Rattle.windows.proofs.Bounds.{open_count, begin_of, end_of, begun_by, missing, missing_is, sorted, is_early, low_few}
 use Rattle.windows.proofs.Bounds.{high_free, high_bound}
 
@@ -67,10 +67,16 @@ module _ (calls : Calls) (are : AreCalls calls) where
             → IsInAt calls (end_of calls x) (ahead_of v0 how) (take_of calls (ahead_of v0 how)) v
         go (inl own) = inl (let lt : end_of calls x < release calls v0 = early in let le0 : v0 ≤ v = least in
             omega (arith, lt, own, le0))
-        go (inr (u, (out, (lt, same)))) = inr (out.within, (out.got, (
-          (let soon : end_of calls x < release calls v0 = early in omega (arith, soon, same)),
-          (let le0 : v0 ≤ v = least in omega (arith, lt, le0)),
-        )))
+        go (inr (u, (out, (lt, same)))) = inr (
+          out.within,
+          (
+            out.got,
+            (
+              (let soon : end_of calls x < release calls v0 = early in omega (arith, soon, same)),
+              (let le0 : v0 ≤ v = least in omega (arith, lt, le0)),
+            ),
+          ),
+        )
 
     in_since : (v0 : ℕ) → IsLeast calls.places p (λ v. v) v0
         → (how : (release calls v0 ≡ v0)

@@ -1,21 +1,20 @@
 -- Calls have an order, or one of the four patterns is in them.
-use Rattle.std.proofs.Common.{ℕ, zero, suc, ◌≡◌, ◌≢◌, ◌<◌, ◌≤◌, ◌+◌, ◌*◌, ◌⊎◌, Bool, true, false, List, [], ◌∷◌, inl, inr, refl}
-use Rattle.std.proofs.Common.{arith, sym, subst, ap, ◌∙◌, ltb, leb}
-use Rattle.std.specs.Prelude.{◌&&◌, ◌||◌, max, min, not}
-use Rattle.std.proofs.lemmas.Bool.{cases_lt, cases_Bool, and_from, or_cases, or_from, or_left, or_right, lt-ltb, le-ltb, ltb-true}
-use Rattle.std.proofs.lemmas.Bool.{not_from_false, false≢true}
+use Rattle.std.proofs.Common.{ℕ, suc, ◌≡◌, ◌≢◌, ◌<◌, ◌≤◌, ◌+◌, ◌*◌, ◌⊎◌, Bool, true, false, List, [], ◌∷◌, inl, inr, refl}
+use Rattle.std.proofs.Common.{arith, sym, subst, ap, ◌∙◌, ltb}
+use Rattle.std.specs.Prelude.{◌||◌, max, min, not}
+use Rattle.std.proofs.lemmas.Bool.{cases_lt, cases_Bool, and_from, or_cases, or_left, or_right, lt-ltb, le-ltb, ltb-true}
+use Rattle.std.proofs.lemmas.Bool.{not_from_false}
 use Rattle.windows.specs.Lists.{IsAmong}
 use Rattle.windows.specs.Runs.{Step, put, got, nothing}
 use Rattle.windows.specs.Windows.{Window, IsWindow, MustPrecede, IsLeft, HaveNoTwo, IsLine}
-use Rattle.windows.specs.Takes.{AreGiven}
 use Rattle.windows.specs.Calls.{Known, no_call, put_done, put_not, put_open, took, found_nothing, take_not, take_open}
 use Rattle.windows.specs.Calls.{Calls, AreCalls, IsPut, Explain, IsAllowed, AreOrdered, place_of, Pattern}
 use Rattle.windows.proofs.Lines.{whole_line}
 use Rattle.windows.proofs.Merging.{Move, steps_of, AreApart, IsSameStep, Ascend}
 use Rattle.windows.proofs.Points.{AreToPass, IsPassing, passing_put, passing_got, passing_nothing, Passes, pass}
 use Rattle.windows.proofs.Numbers.{nth_ascend}
-use Rattle.windows.proofs.Paired.{IsOut, take_of, out_if_below, untaken_if_not, ArePaired, paired_or}
-use Rattle.windows.proofs.Bounds.{is_done, done_is, open_count, begin_of, missing, missing_is, open_take, end_of}
+use Rattle.windows.proofs.Paired.{IsOut, take_of, out_if_below, ArePaired, paired_or}
+use Rattle.windows.proofs.Bounds.{is_done, open_count, begin_of, missing, missing_is, open_take, end_of}
 use Rattle.windows.proofs.Bounds.{open_at}
 use Rattle.windows.proofs.Empties.{Moments, moments_or, given_or, found_nothing_or}
 use Rattle.windows.proofs.Fates.{IsGiving, Fate, is_out, is_given, stays, fate_takes, crossing, in_moment}
@@ -377,3 +376,187 @@ module _ (calls : Calls) (are : AreCalls calls) (paired : ArePaired calls) (mome
           absurd (let more : begin_of calls (give w) < begin_of calls (give v) =
           (nth_ascend (open_at calls) calls.places (give w) (give v) less soon_v) in omega (arith, more, same))
       go (inr le) (inr more) = omega (arith, le, more)
+
+  put_or_take : (known : Known) (v : ℕ) → (known ≡ put_done) ⊎ (known ≡ put_open)
+      → (known ≡ took v) ⊎ (known ≡ take_open) → ⊥
+  put_or_take known v (inl one) (inl other) = cc (one, other)
+  put_or_take known v (inl one) (inr other) = cc (one, other)
+  put_or_take known v (inr one) (inl other) = cc (one, other)
+  put_or_take known v (inr one) (inr other) = cc (one, other)
+
+  put_or_nothing : (known : Known) → (known ≡ put_done) ⊎ (known ≡ put_open) → known ≡ found_nothing → ⊥
+  put_or_nothing known (inl one) other = cc (one, other)
+  put_or_nothing known (inr one) other = cc (one, other)
+
+  took_or_nothing : (known : Known) (v : ℕ) → (known ≡ took v) ⊎ (known ≡ take_open) → known ≡ found_nothing → ⊥
+  took_or_nothing known v (inl one) other = cc (one, other)
+  took_or_nothing known v (inr one) other = cc (one, other)
+
+  places_differ : (p q : ℕ) (x y : Step) → Sits p x → Sits q y → (IsSameStep x y → ⊥) → place_of x ≢ place_of y
+  places_differ p q x y (sits_put v lt known low high) (sits_put w lt_w known_w low_w high_w) apart same = apart same
+  places_differ p q x y (sits_put v lt known low high) (sits_got t w takes low_w high_w) apart same =
+      put_or_take (calls.known v) w known
+      (subst (λ (s : ℕ). (calls.known s ≡ took w) ⊎ (calls.known s ≡ take_open)) (sym same) (take_known w t takes).1)
+  places_differ p q x y (sits_put v lt known low high) (sits_nothing e lt_e found low_e high_e) apart same =
+      put_or_nothing (calls.known v) known (ap calls.known same ∙ found)
+  places_differ p q x y (sits_got t v takes low high) (sits_put w lt_w known_w low_w high_w) apart same =
+      put_or_take (calls.known w) v known_w
+      (subst (λ (s : ℕ). (calls.known s ≡ took v) ⊎ (calls.known s ≡ take_open)) same (take_known v t takes).1)
+  places_differ p q x y (sits_got t v takes low high) (sits_got s w takes_w low_w high_w) apart same =
+      apart (same_take v w t s takes takes_w same)
+  places_differ p q x y (sits_got t v takes low high) (sits_nothing e lt_e found low_e high_e) apart same =
+      took_or_nothing (calls.known t) v (take_known v t takes).1 (ap calls.known same ∙ found)
+  places_differ p q x y (sits_nothing e lt found low high) (sits_put w lt_w known_w low_w high_w) apart same =
+      put_or_nothing (calls.known w) known_w (ap calls.known (sym same) ∙ found)
+  places_differ p q x y (sits_nothing e lt found low high) (sits_got s w takes_w low_w high_w) apart same =
+      took_or_nothing (calls.known s) w (take_known w s takes_w).1 (ap calls.known (sym same) ∙ found)
+  places_differ p q x y (sits_nothing e lt found low high) (sits_nothing f lt_f found_f low_f high_f) apart same =
+      apart same
+
+  since_begin : (p : ℕ) (x : Step) → Sits p x → 2 * place_of x ≤ p
+  since_begin p x (sits_put v lt known low high) = low
+  since_begin p x (sits_got t v takes low high) = low
+  since_begin p x (sits_nothing e lt found low high) = low
+
+  until_end : (p : ℕ) (x : Step) → Sits p x → p ≤ 2 * calls.end (place_of x)
+  until_end p x (sits_put v lt known low high) = high
+  until_end p x (sits_got t v takes low high) = high
+  until_end p x (sits_nothing e lt found low high) = high
+
+  is_allowed : (p : ℕ) (x : Step) → Sits p x → (place_of x < calls.places) × IsAllowed calls x
+  is_allowed p x (sits_put v lt known low high) = (lt, known)
+  is_allowed p x (sits_got t v takes low high) = ((take_known v t takes).0, (take_known v t takes).1)
+  is_allowed p x (sits_nothing e lt found low high) = (lt, inl found)
+
+  record HasMove (step : Step) (moves : List Move) : Type 0 where
+    move : Move
+    among : IsAmong move moves
+    is : move.step ≡ step
+
+  move_of : (step : Step) (moves : List Move) → IsAmong step (steps_of moves) → HasMove step moves
+  move_of step [] among = absurd among
+  move_of step (m ∷ moves) (inl same) = record { move = m; among = inl refl; is = same }
+  move_of step (m ∷ moves) (inr later) =
+      let has : HasMove step moves = move_of step moves later in
+      record { move = has.move; among = inr has.among; is = has.is }
+
+  above : (low : ℕ) (moves : List Move) (n : Move) → Ascend low moves → IsAmong n moves → low ≤ n.point
+  above low [] n ascend among = absurd among
+  above low (m ∷ moves) n ascend (inl same) =
+      let points : m.point ≡ n.point = ap (λ (x : Move). x.point) same in omega (arith, points, ascend.0)
+  above low (m ∷ moves) n ascend (inr later) =
+      let le : m.point ≤ n.point = above m.point moves n ascend.1 later in omega (arith, le, ascend.0)
+
+  ordered : (low : ℕ) (moves : List Move) → Ascend low moves → AreApart moves
+      → ((m : Move) → IsAmong m moves → Sits m.point m.step) → AreOrdered calls (steps_of moves)
+  ordered low [] ascend apart all_sit = tt
+  ordered low (m ∷ moves) ascend apart all_sit = (
+    (λ step among. by step (move_of step moves among)),
+    ordered m.point moves ascend.1 apart.1 (λ n among. all_sit n (inr among)),
+  )
+    where
+      by : (step : Step) → HasMove step moves
+          → (place_of m.step ≢ place_of step) × (calls.end (place_of step) < place_of m.step → ⊥)
+      by step has =
+          let mine : Sits m.point m.step = all_sit m (inl refl) in
+          let other : Sits has.move.point has.move.step = all_sit has.move (inr has.among) in
+          let at : place_of has.move.step ≡ place_of step = ap place_of has.is in (
+            (λ same. places_differ m.point has.move.point m.step has.move.step mine other
+                (apart.0 has.move has.among) (same ∙ sym at)),
+            (λ lt. let first : 2 * place_of m.step ≤ m.point = since_begin m.point m.step mine in
+                let last : has.move.point ≤ 2 * calls.end (place_of has.move.step) =
+                until_end has.move.point has.move.step other in
+                let le : m.point ≤ has.move.point = above m.point moves has.move ascend.1 has.among in
+                let ends : calls.end (place_of has.move.step) ≡ calls.end (place_of step) = ap calls.end at in
+                omega (arith, first, last, le, ends, lt)),
+          )
+
+  to_pass_done : (v : ℕ) → v < calls.places → calls.known v ≡ put_done → IsLeft calls.places (to_pass calls) v
+  to_pass_done v lt known = record {
+    below = lt;
+    is_left = or_left (is_certain calls v) (is_found (calls.known v))
+        (or_right (ltb (take_of calls v) calls.places) (is_done (calls.known v)) (ap is_done known));
+  }
+
+  to_pass_out : (v : ℕ) → IsOut calls v → IsLeft calls.places (to_pass calls) v
+  to_pass_out v out = record {
+    below = (are.sources (take_of calls v) v out.within out.got).0;
+    is_left = or_left (is_certain calls v) (is_found (calls.known v))
+        (or_left (ltb (take_of calls v) calls.places) (is_done (calls.known v))
+        (lt-ltb (take_of calls v) calls.places out.within));
+  }
+
+  to_pass_found : (e : ℕ) → e < calls.places → calls.known e ≡ found_nothing → IsLeft calls.places (to_pass calls) e
+  to_pass_found e lt known = record {
+    below = lt;
+    is_left = or_right (is_certain calls e) (is_found (calls.known e)) (ap is_found known);
+  }
+
+  full_out : (v : ℕ) → IsOut calls v → is_empty v ≡ false
+  full_out v out = go (cases_Bool (is_empty v))
+    where
+      go : (is_empty v ≡ true) ⊎ (is_empty v ≡ false) → is_empty v ≡ false
+      go (inl found) = absurd (not_found v (take_of calls v) (calls.end (take_of calls v)) (is_out out) found)
+      go (inr full) = full
+
+  -- the window and the take of a value that came out are its own
+  record IsOwn (v : ℕ) (window : Window) (t : ℕ) : Type 0 where
+    taker : t ≡ take_of calls v
+    until : window.take_to < never
+
+  own_take : (v : ℕ) (window : Window) (t : ℕ) → IsOut calls v → IsPlaced v window t → IsOwn v window t
+  own_take v window t out (value _ e certain fate) = go t e fate
+    where
+      go : (s f : ℕ) → Fate calls give v s f → IsOwn v (value_window calls v s f) s
+      go s f (is_out is) = record {
+        taker = refl;
+        until = let within : calls.end (take_of calls v) ≤ calls.places = are.within (take_of calls v) is.within in
+            omega (arith, within);
+      }
+      go s f (is_given is_left soon) =
+          absurd ((missing_is calls v is_left).none (take_of calls v) out.within out.got)
+      go s f (stays is_left late) = absurd ((missing_is calls v is_left).none (take_of calls v) out.within out.got)
+  own_take v window t out (at_moment found) =
+      absurd (not_found v (take_of calls v) (calls.end (take_of calls v)) (is_out out) (ap is_found found))
+
+  explain : Explain calls (steps_of passes.moves)
+  explain = record {
+    runs = passes.runs;
+    allowed = λ step among. allowed step (move_of step passes.moves among);
+    ordered = ordered 0 passes.moves passes.ascend passes.apart (λ m among. sits m (passes.members m among));
+    puts = λ v lt known. passes.puts v (to_pass_done v lt known)
+        (ap is_found known);
+    takes = takes;
+    empties = λ e lt known. passes.nothings e (to_pass_found e lt known) (ap is_found known);
+  }
+    where
+      allowed : (step : Step) → HasMove step passes.moves → (place_of step < calls.places) × IsAllowed calls step
+      allowed step has = subst (λ (x : Step). (place_of x < calls.places) × IsAllowed calls x) has.is
+          (is_allowed has.move.point has.move.step (sits has.move (passes.members has.move has.among)))
+
+      takes : (t v : ℕ) → t < calls.places → calls.known t ≡ took v → IsAmong (got t v) (steps_of passes.moves)
+      takes t v lt got_it =
+          let same : take_of calls v ≡ t = paired.once t v lt got_it in
+          let out : IsOut calls v = out_if_below calls v (omega (arith, same, lt)) in
+          let is : IsOwn v (window_at v) (taker_at v) =
+          own_take v (window_at v) (taker_at v) out (placed v (to_pass_out v out)) in
+          subst (λ (s : ℕ). IsAmong (got s v) (steps_of passes.moves)) (is.taker ∙ same)
+          (passes.gots v (to_pass_out v out) (full_out v out) is.until)
+
+pub order_or_pattern : (calls : Calls) → AreCalls calls → ((steps : List Step) × Explain calls steps) ⊎ Pattern calls
+order_or_pattern calls are = go (paired_or calls are) (moments_or calls are calls.places (omega arith))
+  where
+    with_moments : ArePaired calls → (moments : Moments calls calls.places)
+        → ((give : ℕ → ℕ) × IsGiving calls moments give) ⊎ Pattern calls
+        → ((steps : List Step) × Explain calls steps) ⊎ Pattern calls
+    with_moments paired moments (inl (give, given)) = inl (
+      steps_of (passes calls are paired moments give given).moves,
+      explain calls are paired moments give given,
+    )
+    with_moments paired moments (inr pattern) = inr pattern
+
+    go : ArePaired calls ⊎ Pattern calls → Moments calls calls.places ⊎ Pattern calls
+        → ((steps : List Step) × Explain calls steps) ⊎ Pattern calls
+    go (inr pattern) other = inr pattern
+    go (inl paired) (inr pattern) = inr pattern
+    go (inl paired) (inl moments) = with_moments paired moments (given_or calls are calls.places moments)

@@ -2,6 +2,7 @@
 // A law's clause begins with all that it speaks of, so some of them are longer than 120 columns.
 
 ghost use Rattle.std.specs.Prelude.{ℕ, ◌<◌, ◌≤◌, ◌↔◌, ◌⊎◌, ◌++◌, List, Bool};
+ghost use Rattle.windows.specs.Calls.{AreCalls, Calls, Explain, Pattern};
 ghost use Rattle.windows.specs.Lists.{IsAmong};
 ghost use Rattle.windows.specs.Moments.{EndsByIns, IsCrowded, high_at, high_at_all};
 ghost use Rattle.windows.specs.Runs.{LeavesOut, Runs, Step, kept_of, puts_of};
@@ -66,4 +67,9 @@ pub fn dropped_values_change_nothing()
 pub fn last_takes_may_be_dropped()
     ensures { (queue : List ℕ) (steps rest : List Step)
         → Runs queue (steps ++ rest) → Runs queue (steps ++ puts_of rest) }
+{}
+
+/// Of calls on a queue some steps explain what is known, or one of the four patterns is in them.
+pub fn calls_have_an_order_or_a_pattern()
+    ensures { (calls : Calls) → AreCalls calls → ((steps : List Step) × Explain calls steps) ⊎ Pattern calls }
 {}
