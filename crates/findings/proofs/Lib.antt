@@ -8,4 +8,5 @@ mod Covering
 mod Tables
 mod Same
 mod Filled
+mod Reading
 pub mod Untold

@@ -1,3 +1,4 @@
+pub mod Facts
 mod Counts
 mod Least
 mod Lines
