@@ -9,4 +9,5 @@ mod Tables
 mod Same
 mod Filled
 mod Reading
+mod Meanings
 pub mod Untold

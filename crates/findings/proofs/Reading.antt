@@ -258,7 +258,7 @@ return_is events p e client reply begins ends is =
     subst (λ (c : Client). ReturnAt events e c reply) same
     (subst (λ (k : ℕ). ReturnAt events k is.client reply) place is.returns)
 
-knowledge : (events : List Event) (learnt : List (Option Outcome)) (p : ℕ) → Knowledge events learnt p
+pub knowledge : (events : List Event) (learnt : List (Option Outcome)) (p : ℕ) → Knowledge events learnt p
 knowledge events learnt p = go (slice_get learnt p) refl
   where
     not_learnt : ((outcome : Outcome) → IsLearnt learnt p outcome → ⊥)
