@@ -10,4 +10,5 @@ mod Same
 mod Filled
 mod Reading
 mod Meanings
+mod Explained
 pub mod Untold
