@@ -61,7 +61,7 @@ module _ (events : List Event) (learnt : List (Option Outcome)) (is : IsOfQueue 
   enq_or_deq : {value : Value} (p : ℕ) → PutsAt events p value → TakesAt events p → ⊥
   enq_or_deq {value} p puts takes = let both : Some (Enq value) ≡ Some Deq = sym puts ∙ takes in cc (both)
 
-  done_known : (p : ℕ) (value : Value) (reply : Reply) (known : Known) → PutsAt events p value
+  pub done_known : (p : ℕ) (value : Value) (reply : Reply) (known : Known) → PutsAt events p value
       → IsKnown events learnt p reply → Means events learnt p known → known ≡ put_done
   done_known p value reply known puts heard (means_none none) =
       absurd (let both : None ≡ Some (Enq value) = sym none ∙ puts in cc (both))
@@ -74,12 +74,12 @@ module _ (events : List Event) (learnt : List (Option Outcome)) (is : IsOfQueue 
   done_known p value reply known puts heard (means_take_open takes fail) = absurd (enq_or_deq p puts takes)
 
   -- a take of which a reply is known
-  data TakeKnown (p : ℕ) (reply : Reply) (known : Known) : Type 0 where
+  pub data TakeKnown (p : ℕ) (reply : Reply) (known : Known) : Type 0 where
     got_from : (value : Value) (q : ℕ) → reply ≡ Got value → PutsAt events q value → known ≡ took q
         → TakeKnown p reply known
     got_none : reply ≡ Empty → known ≡ found_nothing → TakeKnown p reply known
 
-  take_known : (p : ℕ) (reply : Reply) (known : Known) → TakesAt events p → IsKnown events learnt p reply
+  pub take_known : (p : ℕ) (reply : Reply) (known : Known) → TakesAt events p → IsKnown events learnt p reply
       → Means events learnt p known → TakeKnown p reply known
   take_known p reply known takes heard (means_none none) =
       absurd (let both : None ≡ Some Deq = sym none ∙ takes in cc (both))

@@ -11,4 +11,5 @@ mod Filled
 mod Reading
 mod Meanings
 mod Explained
+mod Found
 pub mod Untold
