@@ -1,13 +1,12 @@
 -- Steps that explain calls are an order that explains the recording.
-use Rattle.std.proofs.Common.{ℕ, zero, suc, ◌≡◌, ◌≢◌, ◌<◌, ◌≤◌, ◌+◌, ◌⊎◌, List, [], ◌∷◌, ◌++◌, Option, Some, None, slice_get}
+use Rattle.std.proofs.Common.{ℕ, zero, suc, ◌≡◌, ◌≢◌, ◌<◌, ◌≤◌, ◌⊎◌, List, [], ◌∷◌, ◌++◌, Option, Some, None, slice_get}
 use Rattle.std.proofs.Common.{get_or, length, take, inl, inr, refl, ap, arith, subst, sym, ◌∙◌}
-use Rattle.std.specs.Prelude.{⊤, EachIndex, Contains, IsSome}
+use Rattle.std.specs.Prelude.{Contains, IsSome}
 use Rattle.std.proofs.lemmas.Bool.{cases_lt}
 use Rattle.std.proofs.lemmas.Option.{same_Some, slice_get-get_or}
-use Rattle.words.specs.PlainQueue.{Value, reply_of}
+use Rattle.words.specs.PlainQueue.{Value}
 use Rattle.words.specs.declared.call.Call.{Call}
 use Rattle.words.specs.declared.call.Call.TheVariants.{Enq, Deq}
-use Rattle.words.specs.declared.call.Client.{Client}
 use Rattle.words.specs.declared.call.Reply.{Reply}
 use Rattle.words.specs.declared.call.Reply.TheVariants.{Done, Got, Empty}
 use Rattle.words.specs.declared.told.Outcome.{Outcome}
@@ -16,22 +15,21 @@ use Rattle.events.specs.declared.event.Event.{Event}
 use Rattle.events.specs.declared.event.Event.TheVariants.{Return as return_event, Crash as crash_event}
 use Rattle.events.specs.declared.event.Entry.{Entry}
 use Rattle.events.specs.Explains.{KeepsPrecedence}
-use Rattle.events.specs.History.{Precedes, ReturnAt}
+use Rattle.events.specs.History.{ReturnAt}
 use Rattle.events.specs.Orders.{IsTakenAs, InOrder, IsNew}
 use Rattle.events.specs.Replay.{call_at, call_of, queue_after_call, IsServed, Replays}
 use Rattle.events.specs.Telling.{IsOutcome}
 use Rattle.events.proofs.Facts.{Runs as RunEntries, begins_within}
-use Rattle.findings.specs.Findings.{IsLearnt, IsReturned, IsKnown, IsKnownGot, PutsAt, TakesAt, ExplainsFindings}
-use Rattle.findings.specs.Findings.{HasDistinctValues}
-use Rattle.findings.specs.Filling.{IsRecorded, IsInterrupted}
+use Rattle.findings.specs.Findings.{IsLearnt, IsReturned, IsKnown, PutsAt, TakesAt, ExplainsFindings}
+use Rattle.findings.specs.Filling.{IsInterrupted}
 use Rattle.findings.specs.FourPatterns.{IsOfQueue}
 use Rattle.windows.specs.Lists.{IsAmong}
 use Rattle.windows.specs.Runs.{Step, put, got, nothing, Runs}
 use Rattle.windows.specs.Calls.{Known, no_call, put_done, put_not, put_open, took, found_nothing, take_not, take_open}
-use Rattle.windows.specs.Calls.{Calls, IsPut, place_of, IsAllowed, AreOrdered, Explain}
-use Rattle.findings.proofs.Reading.{NothingKnown, end_at, precedes_to, return_is}
+use Rattle.windows.specs.Calls.{place_of, IsAllowed, AreOrdered, Explain}
+use Rattle.findings.proofs.Reading.{end_at, precedes_to, return_is}
 use Rattle.findings.proofs.Meanings.{Means, means_none, means_done, means_not, means_open, means_took, means_nothing}
-use Rattle.findings.proofs.Meanings.{means_take_not, means_take_open, HasMeaning, calls_of, meant}
+use Rattle.findings.proofs.Meanings.{means_take_not, means_take_open, HasMeaning, calls_of}
 
 -- what is known of a call is one thing
 module _ (events : List Event) (learnt : List (Option Outcome)) (is : IsOfQueue events learnt) where
@@ -266,7 +264,7 @@ module _ (events : List Event) (learnt : List (Option Outcome)) (is : IsOfQueue 
         (omega (arith, lt))).served e at;
   }
 
-  abbrev order : List Entry
+  abbrev pub order : List Entry
   order = entries_of events steps
 
   rights : (step : Step) → IsAmong step steps → IsRight step

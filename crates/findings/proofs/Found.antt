@@ -1,29 +1,24 @@
 -- A pattern in a recording's calls is one in the recording.
 use Rattle.std.proofs.Common.{ℕ, zero, suc, ◌≡◌, ◌≢◌, ◌<◌, ◌≤◌, ◌+◌, ◌⊎◌, List, [], ◌∷◌, Option, Some, None}
 use Rattle.std.proofs.Common.{get_or, length, inl, inr, refl, ap, arith, subst, sym, ◌∙◌}
-use Rattle.std.specs.Prelude.{All, AllPairs, Contains}
-use Rattle.std.proofs.lemmas.Bool.{cases_lt}
 use Rattle.words.specs.PlainQueue.{Value}
-use Rattle.words.specs.declared.call.Call.{Call}
 use Rattle.words.specs.declared.call.Call.TheVariants.{Enq, Deq}
 use Rattle.words.specs.declared.call.Reply.{Reply}
-use Rattle.words.specs.declared.call.Reply.TheVariants.{Done, Got, Empty}
+use Rattle.words.specs.declared.call.Reply.TheVariants.{Got, Empty}
 use Rattle.words.specs.declared.told.Outcome.{Outcome}
 use Rattle.words.specs.declared.told.Outcome.TheVariants.{NotTaken}
 use Rattle.events.specs.declared.event.Event.{Event}
 use Rattle.events.specs.History.{Precedes}
-use Rattle.events.specs.Replay.{call_at}
 use Rattle.events.proofs.Facts.{contains_from_in, in_from_contains}
-use Rattle.findings.specs.declared.witness.Ahead.{Ahead}
 use Rattle.findings.specs.declared.witness.Since.{Since}
-use Rattle.findings.specs.Findings.{IsLearnt, IsKnown, IsKnownGot, IsOverBy, PutsAt, TakesAt}
-use Rattle.findings.specs.Shows.{IsNoSource, ShowsInvented, ShowsTwice, IsAhead, AreInSince, WasOver, CanHaveTaken}
-use Rattle.findings.specs.Shows.{IsValueOf, IsListed, IsKnownPut, IsFew, IsLate}
+use Rattle.findings.specs.Findings.{IsLearnt, IsKnown, IsKnownGot, PutsAt, TakesAt}
+use Rattle.findings.specs.Shows.{IsNoSource, AreInSince, WasOver, CanHaveTaken}
+use Rattle.findings.specs.Shows.{IsValueOf, IsKnownPut, IsFew, IsLate}
 use Rattle.findings.specs.Shows.{IsInAt as IsInThere}
-use Rattle.findings.specs.FourPatterns.{IsOfQueue, Missing, late, few, IsPutAmong, AreMissing, HasPassedOver, IsHeldAt}
-use Rattle.findings.specs.FourPatterns.{HasNotEmpty, HasPattern, invented, twice, passed_over, not_empty}
+use Rattle.findings.specs.FourPatterns.{IsOfQueue, Missing, late, few, IsPutAmong, AreMissing, IsHeldAt}
+use Rattle.findings.specs.FourPatterns.{HasPattern, invented, twice, passed_over, not_empty}
 use Rattle.windows.specs.Lists.{IsAmong, AreDifferent}
-use Rattle.windows.specs.Calls.{Known, no_call, put_done, put_not, put_open, took, found_nothing, take_not, take_open}
+use Rattle.windows.specs.Calls.{Known, put_done, put_not, took, found_nothing, take_open}
 use Rattle.windows.specs.Calls.{Calls, Lack, IsPutOf, IsInAt, IsMissing, AreFew, Lacks, IsInvented, IsTwice, IsPassedOver}
 use Rattle.windows.specs.Calls.{late as late_lack, few as few_lack, IsLate as IsLateCall, WasOver as WasOverCall}
 use Rattle.windows.specs.Calls.{AreInSince as AreInSinceCalls}
@@ -83,7 +78,7 @@ module _ (events : List Event) (learnt : List (Option Outcome)) (is : IsOfQueue 
   refused_put p known same (means_open v puts fail) = cc (same)
   refused_put p known same (means_took v q takes heard puts) = cc (same)
   refused_put p known same (means_nothing takes heard) = cc (same)
-  refused_put p known same (means_take_not takes heard) = cc (same)
+  refused_put p known same (means_take_not takes heard) = cc
   refused_put p known same (means_take_open takes fail) = cc (same)
 
   empty_take : (p : ℕ) (known : Known) → known ≡ found_nothing → Means events learnt p known

@@ -12,4 +12,5 @@ mod Reading
 mod Meanings
 mod Explained
 mod Found
+mod Whole
 pub mod Untold

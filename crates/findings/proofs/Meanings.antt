@@ -1,29 +1,25 @@
 -- A recording as calls on a queue, by their places.
-use Rattle.std.proofs.Common.{ℕ, zero, suc, ◌≡◌, ◌<◌, ◌≤◌, ◌+◌, ◌⊎◌, List, [], ◌∷◌, Option, Some, None, slice_get, length}
+use Rattle.std.proofs.Common.{ℕ, ◌≡◌, ◌<◌, ◌≤◌, ◌⊎◌, List, [], ◌∷◌, Option, Some, None, length}
 use Rattle.std.proofs.Common.{inl, inr, refl, ap, arith, subst, sym, ◌∙◌}
 use Rattle.std.proofs.lemmas.Bool.{cases_lt, cases_eq}
 use Rattle.words.specs.PlainQueue.{Value}
 use Rattle.words.specs.declared.call.Call.{Call}
 use Rattle.words.specs.declared.call.Call.TheVariants.{Enq, Deq}
 use Rattle.words.specs.declared.call.Client.{Client}
-use Rattle.words.specs.declared.call.Reply.{Reply}
 use Rattle.words.specs.declared.call.Reply.TheVariants.{Done, Got, Empty}
 use Rattle.words.specs.declared.told.Outcome.{Outcome}
-use Rattle.words.specs.declared.told.Outcome.TheVariants.{NotTaken, Taken}
+use Rattle.words.specs.declared.told.Outcome.TheVariants.{NotTaken}
 use Rattle.events.specs.declared.event.Event.{Event}
-use Rattle.events.specs.declared.event.Event.TheVariants.{Return as return_event, Crash as crash_event}
-use Rattle.events.specs.History.{CrashAt, ReturnAt, BeginsAt, EndsAt, IsEnd}
+use Rattle.events.specs.History.{CrashAt, BeginsAt, EndsAt, IsEnd}
 use Rattle.events.specs.Replay.{call_at}
-use Rattle.findings.specs.Findings.{IsLearnt, IsReturned, IsKnown, IsKnownGot, PutsAt, TakesAt}
-use Rattle.findings.specs.Filling.{IsRecorded, IsInterrupted}
-use Rattle.findings.specs.Shows.{ShowsInvented}
+use Rattle.findings.specs.Findings.{IsLearnt, IsKnown, IsKnownGot, PutsAt, TakesAt}
 use Rattle.findings.specs.FourPatterns.{IsOfQueue, HasPattern, invented}
 use Rattle.windows.specs.Calls.{Known, no_call, put_done, put_not, put_open, took, found_nothing, take_not, take_open}
 use Rattle.windows.specs.Calls.{Calls, AreCalls, IsPut}
 use Rattle.windows.proofs.Facts.{all_or}
 use Rattle.findings.proofs.Showing.{within_events}
 use Rattle.findings.proofs.Reading.{NothingKnown, Knowledge, replied, refused, unknown, knowledge, end_at, place_end}
-use Rattle.findings.proofs.Reading.{begins_call, end_is, is_end, return_is}
+use Rattle.findings.proofs.Reading.{begins_call}
 
 -- what is known of a call by its place, and what that means
 pub data Means (events : List Event) (learnt : List (Option Outcome)) (p : ℕ) : Known → Type 0 where
@@ -179,8 +175,7 @@ module _ (events : List Event) (learnt : List (Option Outcome)) (meaning : (p : 
   sources : (t v : ℕ) → t < length events → (meaning t).known ≡ took v → (v < length events) × IsPut (meaning v).known
   sources t v lt known =
       let took_it : TookFrom events learnt t v =
-      took_means events learnt t v (meant events learnt t (meaning t).known (took v) known (meaning t).means) in
-      (
+      took_means events learnt t v (meant events learnt t (meaning t).known (took v) known (meaning t).means) in (
         within_events events v (Enq took_it.value) took_it.puts,
         put_known events learnt v (meaning v).known took_it.value took_it.puts (meaning v).means,
       )

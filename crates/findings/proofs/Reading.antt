@@ -1,28 +1,19 @@
 -- What a recording says of each call: where it ends, and what is known of it.
-use Rattle.std.proofs.Common.{ℕ, zero, suc, ◌≡◌, ◌<◌, ◌≤◌, ◌+◌, ◌-◌, ◌⊎◌, List, [], ◌∷◌, Option, Some, None, slice_get, length}
+use Rattle.std.proofs.Common.{ℕ, zero, suc, ◌≡◌, ◌<◌, ◌≤◌, ◌+◌, ◌-◌, ◌⊎◌, List, Option, Some, None, slice_get, length}
 use Rattle.std.proofs.Common.{inl, inr, refl, ap, arith, subst, sym, ◌∙◌}
 use Rattle.std.proofs.lemmas.Bool.{cases_lt, cases_eq}
 use Rattle.std.proofs.lemmas.Option.{slice_get_within}
-use Rattle.words.specs.PlainQueue.{Value}
 use Rattle.words.specs.declared.call.Call.{Call}
-use Rattle.words.specs.declared.call.Call.TheVariants.{Enq, Deq}
 use Rattle.words.specs.declared.call.Client.{Client}
 use Rattle.words.specs.declared.call.Reply.{Reply}
-use Rattle.words.specs.declared.call.Reply.TheVariants.{Done, Got, Empty}
 use Rattle.words.specs.declared.told.Outcome.{Outcome}
 use Rattle.words.specs.declared.told.Outcome.TheVariants.{NotTaken, Taken}
 use Rattle.events.specs.declared.event.Event.{Event}
 use Rattle.events.specs.declared.event.Event.TheVariants.{Call as call_event, Return as return_event}
 use Rattle.events.specs.declared.event.Event.TheVariants.{Crash as crash_event, Ready as ready_event}
-use Rattle.events.specs.History.{CallAt, ReturnAt, CrashAt, BeginsAt, EndsAt, HasNoEnd, IsEnd, Precedes}
+use Rattle.events.specs.History.{CallAt, ReturnAt, BeginsAt, EndsAt, HasNoEnd, IsEnd, Precedes}
 use Rattle.events.specs.Replay.{call_at, call_of}
-use Rattle.findings.specs.Findings.{IsLearnt, IsReturned, IsKnown, IsKnownGot, IsOverBy, PutsAt, TakesAt}
-use Rattle.findings.specs.Filling.{IsRecorded, IsInterrupted}
-use Rattle.findings.specs.Shows.{ShowsInvented}
-use Rattle.findings.specs.FourPatterns.{IsOfQueue, HasPattern, invented}
-use Rattle.windows.specs.Calls.{Known, no_call, put_done, put_not, put_open, took, found_nothing, take_not, take_open}
-use Rattle.windows.proofs.Facts.{all_or}
-use Rattle.findings.proofs.Showing.{within_events}
+use Rattle.findings.specs.Findings.{IsLearnt, IsReturned, IsKnown, IsOverBy}
 
 -- the call that begins at a place
 pub record CallHere (events : List Event) (p : ℕ) : Type 0 where
@@ -100,8 +91,11 @@ first_end events client p zero k lt fail all = record {
   at = k;
   after = lt;
   within = omega (arith, all);
-  how = inr (omega (arith, all), (λ j after ends.
-      let below : j < length events = ends_within events client j ends in fail j after (omega (arith, below, all)) ends));
+  how = inr (
+    omega (arith, all),
+    (λ j after ends.
+        let below : j < length events = ends_within events client j ends in fail j after (omega (arith, below, all)) ends),
+  );
 }
 first_end events client p (suc c) k lt fail all =
     go (ends_or events client k)
