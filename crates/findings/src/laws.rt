@@ -29,3 +29,15 @@ pub fn recordings_have_an_order_or_a_pattern()
     ensures { (events : List Event) (learnt : List (Option Outcome))
         → IsOfQueue events learnt → HasOrder events learnt ⊎ HasPattern events learnt }
 {}
+
+/// So it has an order exactly if none of the four is in it.
+pub fn recordings_have_an_order_without_patterns()
+    ensures { (events : List Event) (learnt : List (Option Outcome))
+        → IsOfQueue events learnt → (HasOrder events learnt ↔ (HasPattern events learnt → ⊥)) }
+{}
+
+/// What a witness shows is one of the four.
+pub fn witnesses_show_patterns()
+    ensures { (events : List Event) (learnt : List (Option Outcome)) (witness : Witness)
+        → Shows events learnt witness → HasPattern events learnt }
+{}
