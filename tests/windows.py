@@ -152,8 +152,130 @@ def last_takes(draw, bent):
     rest = [it for it in steps[since:] if it[0] == "put" or bent == "nothing_stays" and it[0] == "nothing"]
     return runs(queue, steps[:since] + rest), queue, steps, since
 
+def drawn_calls(draw):
+    """At most six calls: what is known of each, and where it ends; none begins where one ends. Open takes end at one of
+    two crashes, or behind all."""
+    count = draw.randint(1, 6)
+    places = 2 * count + 1
+    known, end, puts = {}, {}, []
+    crashes = [draw.randrange(1, places, 2), draw.randrange(1, places, 2), places]
+    for place in range(0, 2 * count, 2):
+        kinds = ["put_done", "put_open", "put_not", "nothing", "open", "not"] + ["got", "got", "open"] * bool(puts)
+        kind = draw.choice(kinds)
+        known[place] = (kind, draw.choice(puts)) if kind == "got" else (kind, None)
+        end[place] = draw.randrange(place + 1, places + 1, 2)
+        if kind == "open":
+            end[place] = min(crash for crash in crashes if crash > place)
+        if kind.startswith("put"):
+            puts.append(place)
+    if draw.random() < 0.3:
+        for place, (kind, source) in known.items():
+            if kind == "got":
+                known[place] = kind, draw.choice(puts)
+    return places, known, end
 
-LAWS = {"dropping": dropping, "last_takes": last_takes, "moments": moments, "crowded": crowded, "value_line": value_line, "ranges": ranges, "fitting": fitting}
+
+# Two open takes of which the later one ends first: one of the two missing values is to be taken before it began, the other
+# after it ended, so both want the other take.
+UNSORTED = (
+    17,
+    {
+        0: ("put_done", None),
+        2: ("put_done", None),
+        4: ("open", None),
+        6: ("got", 2),
+        8: ("open", None),
+        10: ("put_done", None),
+        12: ("put_done", None),
+        14: ("got", 12),
+    },
+    {0: 1, 2: 3, 4: 17, 6: 7, 8: 9, 10: 11, 12: 13, 14: 15},
+)
+
+
+def steps_of(known):
+    """Every choice of steps for the calls: a value for an open take, and open calls with or without one."""
+    puts = [place for place, (kind, _) in known.items() if kind in ("put_done", "put_open")]
+    choices = []
+    for place, (kind, source) in known.items():
+        if kind == "put_done":
+            choices.append([("put", place, place)])
+        elif kind == "put_open":
+            choices.append([None, ("put", place, place)])
+        elif kind == "got":
+            choices.append([("got", place, source)])
+        elif kind == "nothing":
+            choices.append([("nothing", place, None)])
+        elif kind == "open":
+            choices.append([None] + [("got", place, put) for put in puts])
+    for chosen in product(*choices):
+        yield [it for it in chosen if it]
+
+
+def has_order(known, end):
+    def goes_on(queue, left):
+        if not left:
+            return True
+        for step in left:
+            if any(end[other[1]] < step[1] for other in left):
+                continue
+            rest = [it for it in left if it is not step]
+            if step[0] == "put" and goes_on(queue + [step[2]], rest):
+                return True
+            if step[0] == "got" and queue[:1] == [step[2]] and goes_on(queue[1:], rest):
+                return True
+            if step[0] == "nothing" and not queue and goes_on(queue, rest):
+                return True
+        return False
+
+    return any(goes_on([], steps) for steps in steps_of(known))
+
+
+def lacks(known, end, places, bound, may):
+    """Whether takes begun before the bound cannot all have taken some values, of puts that may be meant."""
+    takes = {source: place for place, (kind, source) in known.items() if kind == "got"}
+    if any(take >= bound and may(put) for put, take in takes.items()):
+        return True
+    missing = [place for place, (kind, _) in known.items() if kind == "put_done" and place not in takes and may(place)]
+    opens = [place for place, (kind, _) in known.items() if kind == "open" and place < bound]
+    for since in [None, *range(places)]:
+        can = [take for take in opens if since is None or end[take] > since]
+        for ahead in [None, *takes]:
+            those = [
+                put
+                for put in missing
+                if since is None or since < put or ahead is not None and takes[ahead] > since and end[ahead] < put
+            ]
+            if len(those) > len(can):
+                return True
+    return False
+
+
+def has_pattern(known, end, places, bent):
+    got = [(place, source) for place, (kind, source) in known.items() if kind == "got"]
+    if any(known[source][0] == "put_not" or end[take] < source for take, source in got):
+        return True
+    if len({source for _, source in got}) < len(got):
+        return True
+    if any(lacks(known, end, places, end[take], lambda put: end[put] < source) for take, source in got):
+        return True
+    return any(
+        all(
+            lacks(known, end, places, place + (bent != "moment"), lambda put: end[put] <= place)
+            for place in range(take, end[take])
+        )
+        for take, (kind, _) in known.items()
+        if kind == "nothing"
+    )
+
+
+def calls(draw, bent):
+    """Of calls on a queue either some steps explain what is known, or one of the four patterns is in them."""
+    places, known, end = UNSORTED if bent == "sorted" else drawn_calls(draw)
+    return has_order(known, end) != has_pattern(known, end, places, bent), places, known, end
+
+
+LAWS = {"calls": calls, "dropping": dropping, "last_takes": last_takes, "moments": moments, "crowded": crowded, "value_line": value_line, "ranges": ranges, "fitting": fitting}
 
 
 def main(law, bent=None):

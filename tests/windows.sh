@@ -23,4 +23,5 @@ law moments first_left_out
 law crowded ends in_before
 law dropping puts_alone
 law last_takes nothing_stays
+law calls sorted moment
 count
