@@ -8,4 +8,9 @@ mod Covering
 mod Tables
 mod Same
 mod Filled
+mod Reading
+mod Meanings
+mod Explained
+mod Found
+mod Whole
 pub mod Untold

@@ -1,5 +1,5 @@
 -- What a lack of takes comes to, and what the four patterns show.
-use Rattle.std.proofs.Common.{ℕ, zero, suc, ◌≡◌, ◌<◌, ◌≤◌, List, [], ◌∷◌, Option, Some, None, slice_get}
+use Rattle.std.proofs.Common.{ℕ, zero, suc, ◌≡◌, ◌<◌, ◌≤◌, ◌+◌, List, [], ◌∷◌, Option, Some, None, slice_get}
 use Rattle.std.proofs.Common.{get_or, length, take, refl, ap, arith, subst, sym, ◌∙◌, ⊎_elim}
 use Rattle.std.specs.Prelude.{Contains}
 use Rattle.std.proofs.lemmas.Bool.{cases_lt}
@@ -20,14 +20,16 @@ use Rattle.findings.specs.declared.witness.Ahead.{Ahead}
 use Rattle.findings.specs.declared.witness.Since.{Since}
 use Rattle.findings.specs.declared.witness.Lack.{Lack}
 use Rattle.findings.specs.declared.witness.Lack.TheVariants.{Late, Few}
+use Rattle.findings.specs.FourPatterns.{Missing, late, few, IsPutAmong, AreMissing, HasPassedOver, IsHeldAt, HasNotEmpty}
+use Rattle.findings.specs.FourPatterns.{HasPattern, invented, twice, passed_over, not_empty}
 use Rattle.findings.specs.declared.witness.Piece.{Piece}
 use Rattle.findings.specs.declared.witness.Witness.{Witness}
 use Rattle.findings.specs.declared.witness.Witness.TheVariants.{Invented, Twice, PassedOver, NotEmpty}
 use Rattle.findings.specs.Findings.{IsLearnt, ExplainsFindings, HasNoOrder, PutsAt, TakesAt}
 use Rattle.findings.specs.Findings.{HasDistinctValues, IsOverBy}
 use Rattle.findings.specs.Shows.{ShowsInvented, ShowsTwice, IsAhead, IsInAt, AreInSince, WasOver}
-use Rattle.findings.specs.Shows.{CanHaveTaken, IsKnownPut, Lacks, IsPutOf, ShowsPassedOver, IsHeld}
-use Rattle.findings.specs.Shows.{IsWithin, ShowsNotEmpty, Shows}
+use Rattle.findings.specs.Shows.{CanHaveTaken, IsKnownPut, Lacks, IsPutOf, IsHeld}
+use Rattle.findings.specs.Shows.{IsWithin, Shows}
 use Rattle.findings.proofs.Turns.{IsPutAt, IsGotAt}
 use Rattle.findings.proofs.Patterns.{HasEntry, known_entry, one_entry, got_once, IsPutEarlier}
 use Rattle.findings.proofs.Patterns.{got_was_put, IsGotEarlier}
@@ -179,10 +181,10 @@ pub record TookValueOf (events : List Event) (order : List Entry) (p r : ℕ) : 
 
 -- not all values of a lack can have been taken before its bound
 pub lack_refutes : (events : List Event) (learnt : List (Option Outcome)) (order : List Entry)
-    → ExplainsFindings events learnt order → HasDistinctValues events → (bound : ℕ) (lack : Lack)
-    → Lacks events learnt bound lack
-    → ((p : ℕ) (value : Value) → IsPutOf lack p → PutsAt events p value → IsTakenBefore order bound value) → ⊥
-lack_refutes events learnt order explains distinct bound (Late put late_take) lacks each =
+    → ExplainsFindings events learnt order → HasDistinctValues events → (bound : ℕ) (lack : Missing)
+    → AreMissing events learnt bound lack
+    → ((p : ℕ) (value : Value) → IsPutAmong lack p → PutsAt events p value → IsTakenBefore order bound value) → ⊥
+lack_refutes events learnt order explains distinct bound (late put late_take) lacks each =
     let taken : IsTakenBefore order bound lacks.value = each put lacks.value refl lacks.puts in
     let has : HasEntry order late_take (Got lacks.value) =
     known_entry events learnt order explains late_take (Got lacks.value) lacks.got in
@@ -191,19 +193,19 @@ lack_refutes events learnt order explains distinct bound (Late put late_take) la
     taken.got (record { entry = has.entry; at = has.at; got = has.is }) in
     let entries : taken.got.entry ≡ has.entry = cc (taken.got.at, has.at, ap (slice_get order) same) in
     omega (arith, ap (λ (e : Entry). e.place) entries, has.place, lacks.late, taken.early)
-lack_refutes events learnt order explains distinct bound (Few puts takes since) lacks each =
-    let enough : length puts.items ≤ length takes.items =
-    no_more (TookValueOf events order) puts.items takes.items lacks.different
+lack_refutes events learnt order explains distinct bound (few puts takes since) lacks each =
+    let enough : length puts ≤ length takes =
+    no_more (TookValueOf events order) puts takes lacks.different
     (λ p is.
-    let contained : Contains puts.items p = contains_from_in puts.items p is in
+    let contained : Contains puts p = contains_from_in puts p is in
     let known : IsKnownPut events learnt p = subst (IsKnownPut events learnt) contained.2
     (lacks.certain contained.0 p contained.1) in
     let taken : IsTakenBefore order bound known.value = each p known.value contained known.puts in
     record {
       one = taken.got.entry.place;
-      contained = in_from_contains takes.items taken.got.entry.place
+      contained = in_from_contains takes taken.got.entry.place
           ((lacks.listed taken.got.entry.place taken.early).contained
-          (can_have_taken events learnt order explains distinct puts.items since lacks.in_since p known.value
+          (can_have_taken events learnt order explains distinct puts since lacks.in_since p known.value
           taken.index
           contained known.puts taken.got));
       related = record {
@@ -226,10 +228,10 @@ lack_refutes events learnt order explains distinct bound (Few puts takes since) 
 
 -- the puts of a lack are in the order
 pub lack_puts : (events : List Event) (learnt : List (Option Outcome)) (order : List Entry)
-    → ExplainsFindings events learnt order → HasDistinctValues events → (bound : ℕ) (lack : Lack)
-    → Lacks events learnt bound lack → (p : ℕ) (value : Value) → IsPutOf lack p → PutsAt events p value
+    → ExplainsFindings events learnt order → HasDistinctValues events → (bound : ℕ) (lack : Missing)
+    → AreMissing events learnt bound lack → (p : ℕ) (value : Value) → IsPutAmong lack p → PutsAt events p value
     → (k : ℕ) × IsPutAt events order k value
-lack_puts events learnt order explains distinct bound (Late put late_take) lacks p value is puts =
+lack_puts events learnt order explains distinct bound (late put late_take) lacks p value is puts =
     let has : HasEntry order late_take (Got lacks.value) =
     known_entry events learnt order explains late_take (Got lacks.value) lacks.got in
     let was : IsPutEarlier events order has.index lacks.value =
@@ -239,7 +241,7 @@ lack_puts events learnt order explains distinct bound (Late put late_take) lacks
     let one : Some (Enq lacks.value) ≡ Some (Enq value) = sym lacks.puts ∙ here in
     let values : lacks.value ≡ value = cc (one) in
     (was.index, subst (IsPutAt events order was.index) values was.put)
-lack_puts events learnt order explains distinct bound (Few puts takes since) lacks p value is is_put =
+lack_puts events learnt order explains distinct bound (few puts takes since) lacks p value is is_put =
     let known : IsKnownPut events learnt p = subst (IsKnownPut events learnt) is.2 (lacks.certain is.0 p is.1) in
     let has : HasEntry order p Done = known_entry events learnt order explains p Done known.known in (
       has.index,
@@ -355,17 +357,17 @@ twice_refutes events learnt first second value distinct shows order explains =
     let entries : one.entry ≡ other.entry = cc (one.at, other.at, ap (slice_get order) same) in
     shows.two (sym one.place ∙ ap (λ (e : Entry). e.place) entries ∙ other.place)
 
-passed_over_refutes : (events : List Event) (learnt : List (Option Outcome)) (take put bound : ℕ) (lack : Lack)
-    → HasDistinctValues events → ShowsPassedOver events learnt take put bound lack → (order : List Entry)
+passed_over_refutes : (events : List Event) (learnt : List (Option Outcome)) (take put bound : ℕ) (value : Value)
+    (lack : Missing) → HasDistinctValues events → HasPassedOver events learnt take put bound value lack → (order : List Entry)
     → ExplainsFindings events learnt order → ⊥
-passed_over_refutes events learnt take put bound lack distinct shows order explains =
-    let has : HasEntry order take (Got shows.value) =
-    known_entry events learnt order explains take (Got shows.value) shows.got in
-    let got : IsGotAt order has.index shows.value = record { entry = has.entry; at = has.at; got = has.is } in
-    let was : IsPutEarlier events order has.index shows.value =
-    got_was_put events learnt order explains has.index shows.value got in
+passed_over_refutes events learnt take put bound got_value lack distinct shows order explains =
+    let has : HasEntry order take (Got got_value) =
+    known_entry events learnt order explains take (Got got_value) shows.got in
+    let got : IsGotAt order has.index got_value = record { entry = has.entry; at = has.at; got = has.is } in
+    let was : IsPutEarlier events order has.index got_value =
+    got_was_put events learnt order explains has.index got_value got in
     let its_place : was.put.entry.place ≡ put =
-    distinct.each was.put.entry.place put shows.value was.put.puts shows.puts in
+    distinct.each was.put.entry.place put got_value was.put.puts shows.puts in
     lack_refutes events learnt order explains distinct bound lack shows.lacks
     (λ p value is is_put.
     let mine : (k : ℕ) × IsPutAt events order k value =
@@ -376,7 +378,7 @@ passed_over_refutes events learnt take put bound lack distinct shows order expla
     (subst (λ (n : ℕ). Precedes events n was.put.entry.place) (sym place)
     (subst (Precedes events p) (sym its_place) (shows.ahead p is))) in
     let earlier : IsGotEarlier order has.index value = got_ahead events learnt order explains distinct has.index mine.0
-    was.index shows.value value got was.put first mine.1 in
+    was.index got_value value got was.put first mine.1 in
     let takes : TakesAt events earlier.got.entry.place =
     got_takes events learnt order explains earlier.index value earlier.got in
     record {
@@ -400,10 +402,10 @@ passed_over_refutes events learnt take put bound lack distinct shows order expla
           (cases_lt earlier.got.entry.place bound);
     })
 
-not_empty_refutes : (events : List Event) (learnt : List (Option Outcome)) (take end : ℕ) (pieces : List Piece)
-    → HasDistinctValues events → ShowsNotEmpty events learnt take end pieces → (order : List Entry)
+not_empty_refutes : (events : List Event) (learnt : List (Option Outcome)) (take end : ℕ)
+    → HasDistinctValues events → HasNotEmpty events learnt take end → (order : List Entry)
     → ExplainsFindings events learnt order → ⊥
-not_empty_refutes events learnt take end pieces distinct shows order explains =
+not_empty_refutes events learnt take end distinct shows order explains =
     let has : HasEntry order take Empty = known_entry events learnt order explains take Empty shows.empty in
     let moment : IsMoment order (suc has.index) =
     moment_of order has.index has.entry (slice_get_within order has.index has.entry has.at) in
@@ -422,25 +424,20 @@ not_empty_refutes events learnt take end pieces distinct shows order explains =
     omega arith)
     shows.bounded))
     (cases_lt moment.entry.place end) in
-    let inside = shows.covered moment.entry.place (omega (arith, has.place, low)) high in
-    in_piece has moment calls inside.piece
-    (held_at inside.index inside.piece inside.at) inside.within
+    at_moment has moment calls (shows.held moment.entry.place (omega (arith, has.place, low)) high)
   where
-    held_at : (k : ℕ) (piece : Piece) → slice_get pieces k ≡ Some piece → IsHeld events learnt piece
-    held_at k piece at = subst (IsHeld events learnt) (get_or_from_slice_get pieces k piece piece at)
-        (shows.held k piece (slice_get_within pieces k piece at))
-
-    in_piece : (has : HasEntry order take Empty) → (moment : IsMoment order (suc has.index))
-        → (calls : (call : Call) × (call_at events moment.entry.place ≡ Some call)) → (piece : Piece)
-        → IsHeld events learnt piece → IsWithin piece moment.entry.place → ⊥
-    in_piece has moment calls piece held within =
-        lack_refutes events learnt order explains distinct piece.to piece.lack held.lacks
+    at_moment : (has : HasEntry order take Empty) → (moment : IsMoment order (suc has.index))
+        → (calls : (call : Call) × (call_at events moment.entry.place ≡ Some call))
+        → IsHeldAt events learnt moment.entry.place → ⊥
+    at_moment has moment calls held =
+        lack_refutes events learnt order explains distinct (moment.entry.place + 1) held.missing held.lacks
         (λ p value is is_put.
         let mine : (k : ℕ) × IsPutAt events order k value =
-        lack_puts events learnt order explains distinct piece.to piece.lack held.lacks p value is is_put in
+        lack_puts events learnt order explains distinct (moment.entry.place + 1) held.missing held.lacks p value is is_put in
         let place : mine.1.entry.place ≡ p = distinct.each mine.1.entry.place p value mine.1.puts is_put in
         let before : Precedes events p moment.entry.place =
-        over_precedes events p moment.entry.place piece.from calls.0 (held.ended p is) within.0 calls.1 in
+        over_precedes events p moment.entry.place moment.entry.place calls.0 (held.ended p is)
+        (omega arith) calls.1 in
         let lt : mine.0 < moment.index = stands_before events learnt order explains mine.0 moment.index mine.1.entry
         moment.entry mine.1.at moment.at (subst (λ (n : ℕ). Precedes events n moment.entry.place) (sym place) before) in
         let earlier : IsGotEarlier order has.index value = got_before_empty events learnt order explains
@@ -448,25 +445,85 @@ not_empty_refutes events learnt take end pieces distinct shows order explains =
         value has.entry has.at has.is (omega (arith, moment.upto, lt)) mine.1 in
         let le : earlier.got.entry.place ≤ moment.entry.place =
         moment.above earlier.index earlier.got.entry (omega (arith, earlier.before)) earlier.got.at in
-        record { index = earlier.index; got = earlier.got; early = omega (arith, le, within.1) })
+        record { index = earlier.index; got = earlier.got; early = omega (arith, le) })
+
+-- where a pattern is in a recording, no order explains what is known
+pub pattern_refutes : (events : List Event) (learnt : List (Option Outcome)) → HasDistinctValues events
+    → HasPattern events learnt → (order : List Entry) → ExplainsFindings events learnt order → ⊥
+pattern_refutes events learnt distinct (invented take value shows) order explains =
+    invented_refutes events learnt take value shows order explains
+pattern_refutes events learnt distinct (twice first second value shows) order explains =
+    twice_refutes events learnt first second value distinct shows order explains
+pattern_refutes events learnt distinct (passed_over take put bound value lack shows) order explains =
+    passed_over_refutes events learnt take put bound value lack distinct shows order explains
+pattern_refutes events learnt distinct (not_empty take end shows) order explains =
+    not_empty_refutes events learnt take end distinct shows order explains
+
+-- the lack of a witness
+abbrev missing_of : Lack → Missing
+missing_of (Late put take) = late put take
+missing_of (Few puts takes since) = few puts.items takes.items since
+
+put_of : (lack : Lack) (p : ℕ) → IsPutAmong (missing_of lack) p → IsPutOf lack p
+put_of (Late put take) p is = is
+put_of (Few puts takes since) p is = is
+
+-- what takes begun before a bound cannot have taken, those begun before an earlier one cannot
+missing_from : (events : List Event) (learnt : List (Option Outcome)) (bound earlier : ℕ) (lack : Lack)
+    → earlier ≤ bound → Lacks events learnt bound lack → AreMissing events learnt earlier (missing_of lack)
+missing_from events learnt bound earlier (Late put take) le lacks =
+    record { value = lacks.value; puts = lacks.puts; got = lacks.got; late = omega (arith, le, lacks.late) }
+missing_from events learnt bound earlier (Few puts takes since) le lacks = record {
+  certain = lacks.certain;
+  different = lacks.different;
+  in_since = lacks.in_since;
+  listed = λ take lt. lacks.listed take (omega (arith, le, lt));
+  fewer = lacks.fewer;
+}
+
+-- what a witness shows is a pattern in the recording
+pub shown_pattern : (events : List Event) (learnt : List (Option Outcome)) (witness : Witness)
+    → Shows events learnt witness → HasPattern events learnt
+shown_pattern events learnt (Invented take value) shows = invented take value shows.shown
+shown_pattern events learnt (Twice first second value) shows = twice first second value shows.shown
+shown_pattern events learnt (PassedOver take put bound lack) shows =
+    passed_over take put bound shows.shown.value (missing_of lack) (record {
+      puts = shows.shown.puts;
+      got = shows.shown.got;
+      bounded = shows.shown.bounded;
+      ahead = λ p is. shows.shown.ahead p (put_of lack p is);
+      lacks = missing_from events learnt bound bound lack (omega arith) shows.shown.lacks;
+    })
+shown_pattern events learnt (NotEmpty take end pieces) shows = not_empty take end (record {
+  empty = shows.shown.empty;
+  bounded = shows.shown.bounded;
+  held = λ place since before.
+      let inside = shows.shown.covered place since before in
+      held_at place inside.piece (piece_at inside.index inside.piece inside.at) inside.within;
+})
+  where
+    piece_at : (k : ℕ) (piece : Piece) → slice_get pieces.items k ≡ Some piece → IsHeld events learnt piece
+    piece_at k piece at = subst (IsHeld events learnt) (get_or_from_slice_get pieces.items k piece piece at)
+        (shows.shown.held k piece (slice_get_within pieces.items k piece at))
+
+    held_at : (place : ℕ) (piece : Piece) → IsHeld events learnt piece → IsWithin piece place
+        → IsHeldAt events learnt place
+    held_at place piece held within = record {
+      missing = missing_of piece.lack;
+      ended = λ p is. let over : IsOverBy events p piece.from = held.ended p (put_of piece.lack p is) in
+          record {
+            client = over.client;
+            begins = over.begins;
+            end = over.end;
+            ends = over.ends;
+            by = omega (arith, over.by, within.0);
+          };
+      lacks = missing_from events learnt piece.to (place + 1) piece.lack (omega (arith, within.1)) held.lacks;
+    }
 
 -- where a witness shows its pattern, no order explains what is known
 pub shown_refutes : (events : List Event) (learnt : List (Option Outcome)) (witness : Witness)
     → Shows events learnt witness → HasNoOrder events learnt
-shown_refutes events learnt (Invented take value) shows =
-    record { none = λ order explains. invented_refutes events learnt take value shows.shown order explains }
-shown_refutes events learnt (Twice first second value) shows =
-    record {
-      none = λ order explains.
-          twice_refutes events learnt first second value shows.distinct shows.shown order explains;
-    }
-shown_refutes events learnt (PassedOver take put bound lack) shows =
-    record {
-      none = λ order explains.
-          passed_over_refutes events learnt take put bound lack shows.distinct shows.shown order explains;
-    }
-shown_refutes events learnt (NotEmpty take end pieces) shows =
-    record {
-      none = λ order explains.
-          not_empty_refutes events learnt take end pieces.items shows.distinct shows.shown order explains;
-    }
+shown_refutes events learnt witness shows = record {
+  none = pattern_refutes events learnt shows.distinct (shown_pattern events learnt witness shows);
+}

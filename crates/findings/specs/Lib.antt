@@ -7,3 +7,4 @@ pub mod Ranks
 pub mod Shows
 pub mod Agreeing
 pub mod Filling
+pub mod FourPatterns
