@@ -1,0 +1,5 @@
+mod Steps
+mod Turns
+mod Returns
+mod Answered
+mod Reading
