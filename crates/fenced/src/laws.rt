@@ -1,8 +1,8 @@
 //! What holds of the log, whatever is lost, comes late or is done twice.
 
 ghost use Rattle.fenced.specs.Laws.{AllPiecesAreThere, AnsweredIsAppended, AnsweredIsPlaced, ConfirmedIsCurrent};
-ghost use Rattle.fenced.specs.Laws.{DoublesAreNothing, FindsLast, HasOneText, InEachRun, OwnersNeverReturn, ReadsText, TailsNeverReturn};
-ghost use Rattle.fenced.specs.Laws.{TakenIsFinal, TakesEffectOnce, TextGoesOn};
+ghost use Rattle.fenced.specs.Laws.{DoublesAreNothing, FindsLast, HasOneText, InEachRun, OwnersNeverReturn, ReadsText};
+ghost use Rattle.fenced.specs.Laws.{TailsNeverReturn, TakenIsFinal, TakesEffectOnce, TextGoesOn};
 
 /// A tail that was replaced never comes back, and neither does an owner. So what replaces a tail takes effect once at
 /// most, however often it is sent.
@@ -31,8 +31,8 @@ pub fn taken_is_final()
     ensures { InEachRun TakenIsFinal }
 {}
 
-/// The pieces of the text are there, and who takes the log reads the text that it had. That is the text of the last tail that the owner before knew, or this
-/// and the piece that was under way, or the fresh generation that was to come in use.
+/// All pieces of the text are there, and who takes the log reads the text that it had. That is the text of the last tail
+/// that the owner before knew, or this and the piece that was under way, or the fresh generation that was to come in use.
 pub fn taker_reads()
     ensures there { InEachRun AllPiecesAreThere }
     ensures reads { InEachRun ReadsText }
