@@ -3,3 +3,4 @@ mod Turns
 mod Returns
 mod Answered
 mod Reading
+pub mod Facts
