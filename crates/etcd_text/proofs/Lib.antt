@@ -1,0 +1,3 @@
+mod Spelling
+mod Pieces
+mod Bodies

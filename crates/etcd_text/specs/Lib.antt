@@ -1,0 +1,4 @@
+pub mod Tails
+pub mod Asked
+pub mod Texts
+pub mod Answers

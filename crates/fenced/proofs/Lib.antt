@@ -1,0 +1,6 @@
+mod Steps
+mod Turns
+mod Returns
+mod Answered
+mod Reading
+pub mod Facts

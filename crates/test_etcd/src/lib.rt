@@ -1,0 +1,5 @@
+//! Tests of the log in etcd, of what no clause says.
+#![tactic(auto)]
+
+#[cfg(test)]
+mod wire;
