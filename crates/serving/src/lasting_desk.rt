@@ -45,7 +45,7 @@ impl<'a, 'j, J: Naming + Settling, S: Storage + Drop> LastingDesk<'a, 'j, J, S> 
 
     /// The desk where its requests were answered.
     pub fn into_desk(self) -> MarkingDesk<'a, J>
-        ensures { result ≡ self.desk }
+        ensures { result ≡ self.entry.desk }
     {
         self.desk
     }

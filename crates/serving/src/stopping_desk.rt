@@ -26,7 +26,7 @@ impl<'a, D: Desk> StoppingDesk<'a, D> {
 
     /// The desk that it stands before.
     pub fn into_desk(self) -> D
-        ensures { result ≡ self.desk }
+        ensures { result ≡ self.entry.desk }
     {
         self.desk
     }
