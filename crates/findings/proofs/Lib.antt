@@ -8,4 +8,9 @@ mod Covering
 mod Tables
 mod Same
 mod Filled
-pub mod Untold
+mod Placing
+mod Ending
+mod Ended
+mod Greatest
+mod Stands
+pub mod FewClients

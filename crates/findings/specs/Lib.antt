@@ -7,3 +7,6 @@ pub mod Ranks
 pub mod Shows
 pub mod Agreeing
 pub mod Filling
+pub mod Facts
+pub mod Ends
+pub mod Standing

@@ -5,7 +5,7 @@ ghost use Rattle.std.specs.Prelude.{◌↔◌, List, Option};
 ghost use Rattle.words.specs.declared.told.Outcome.{Outcome};
 ghost use Rattle.events.specs.declared.event.Event.{Event};
 ghost use Rattle.events.specs.declared.event.Entry.{Entry};
-ghost use Rattle.findings.specs.Filling.{IsRecorded, SomeFillingIsExplained};
+ghost use Rattle.findings.specs.Filling.{HasFewClients, IsRecorded, IsRecordedOfAny, SomeFillingIsExplained};
 ghost use Rattle.findings.specs.Findings.{ExplainsFindings, HasNoOrder};
 ghost use Rattle.findings.specs.Shows.{Shows};
 ghost use Rattle.findings.specs.declared.witness.Witness.{Witness};
@@ -21,4 +21,10 @@ pub fn findings_are_fillings()
     ensures { (events : List Event) (learnt : List (Option Outcome)) (order : List Entry)
         → IsRecorded events learnt
         → (ExplainsFindings events learnt order ↔ SomeFillingIsExplained events learnt order) }
+{}
+
+/// A recorded history of any clients is one that may arise, where its clients are those of one queue.
+pub fn few_clients_are_recorded()
+    ensures { (events : List Event) (learnt : List (Option Outcome))
+        → IsRecordedOfAny events learnt → HasFewClients events → IsRecorded events learnt }
 {}

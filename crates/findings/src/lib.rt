@@ -4,15 +4,24 @@
 
 mod agreeing;
 mod distinct;
+mod explaining;
+mod fact;
+mod facts;
 mod judging;
 mod known;
 mod lacking;
 mod laws;
+mod preceding;
 mod rank;
+mod recorded;
+mod replaying;
 mod witness;
 
-pub use agreeing::explains_known;
+pub use explaining::explains_findings;
+pub use fact::{Fact, RankedCall, RankedReply};
+pub use facts::{Facts, Findings};
 pub use judging::refutes;
-pub use laws::{findings_are_fillings, patterns_refute};
+pub use laws::{few_clients_are_recorded, findings_are_fillings, patterns_refute};
 pub use rank::{rank_of, ranked};
+pub use recorded::is_recorded;
 pub use witness::{Ahead, Lack, Piece, Since, Witness};
