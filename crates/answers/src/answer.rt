@@ -3,13 +3,12 @@
 ghost use Rattle.std.specs.Prelude.{◌≡◌, ◌<◌, ◌≤◌, length, IfOk, IfSome};
 ghost use Rattle.answers.specs.Answers.{IsExplanation, IsRefutation, IsRight};
 
-use events::{Entry, History, Order, Sequence};
-use findings::{Lack, Witness, explains_known, refutes};
-use prefixes::{Facts, Prefix, facts_of, prefix_of, told_events};
+use events::{Entry, Order, Sequence};
+use findings::{Lack, Witness, explains_findings, is_recorded, refutes};
+use prefixes::{Prefix, findings_of, prefix_of};
 use recording::Recording;
 use seeking::{Found, search};
 use std::alloc::{AllocError, Global};
-use words::Told;
 
 /// Hears how far the search has come.
 pub trait Watch {
@@ -17,44 +16,35 @@ pub trait Watch {
     fn look(&mut self, steps: usize);
 }
 
-/// A history, and an order that explains it.
-#[derive(Drop)]
-pub struct Explanation {
-    pub history: History,
-    pub order: Order,
-}
-
 /// What is said of a recording. Each answer but Unknown was judged.
 #[derive(Drop)]
 pub enum Answer {
-    Explained(Prefix, Explanation),
+    Explained(Prefix, Order),
     /// No order explains the first steps, up to this prefix, and one explains those before the last of them.
-    Impossible(Prefix, Witness, Explanation),
+    Impossible(Prefix, Witness, Order),
     Unknown,
 }
 
-/// The order, where it explains the first so many steps, as the checker of histories sees it.
+/// The order, where it explains the first so many steps.
 fn judge_order(
     alloc: Global,
     recording: &Recording,
     count: usize,
     entries: Vec<Entry>,
-) -> Result<Option<Explanation>, AllocError>
-    ensures { IfOk result (λ found. IfSome found (λ e. IsExplanation recording.now count e)) }
+) -> Result<Option<Order>, AllocError>
+    ensures { IfOk result (λ found. IfSome found (λ order. IsExplanation recording.now count order)) }
 {
-    let Facts { events, learnt } = facts_of(alloc, recording, count)?;
-    let history = History {
-        base: Sequence::new(alloc),
-        told: [Told::None; 16],
-        events: told_events(alloc, events, &entries)?,
-    };
+    let findings = findings_of(alloc, recording, count)?;
     let order = Order {
         entries: Sequence::from_vec(entries),
     };
-    match explains_known(alloc, &history, &learnt, &order) {
-        Ok(true) => Ok(Some(Explanation { history, order })),
-        Ok(false) => Ok(None),
-        Err(_) => Err(AllocError),
+    if !is_recorded(alloc, &findings)? {
+        return Ok(None);
+    }
+    if explains_findings(alloc, &findings, &order)? {
+        Ok(Some(order))
+    } else {
+        Ok(None)
     }
 }
 
@@ -67,8 +57,8 @@ fn judge_witness(
 ) -> Result<Option<Witness>, AllocError>
     ensures { IfOk result (λ found. IfSome found (λ w. IsRefutation recording.now count w)) }
 {
-    let facts = facts_of(alloc, recording, count)?;
-    if refutes(&facts.events, &facts.learnt, &witness) {
+    let findings = findings_of(alloc, recording, count)?;
+    if refutes(&findings, &witness) {
         Ok(Some(witness))
     } else {
         Ok(None)
@@ -222,14 +212,14 @@ fn judged(alloc: Global, recording: &Recording, between: Between) -> Result<Answ
     if is_lost || high == 0 || low != high - 1 || high > recording.steps.len() {
         return Ok(Answer::Unknown);
     }
-    let Some(explanation) = judge_order(alloc, recording, low, order)? else {
+    let Some(order) = judge_order(alloc, recording, low, order)? else {
         return Ok(Answer::Unknown);
     };
     let Some(witness) = judge_witness(alloc, recording, high, witness)? else {
         return Ok(Answer::Unknown);
     };
     let prefix = prefix_of(alloc, recording, high)?;
-    Ok(Answer::Impossible(prefix, witness, explanation))
+    Ok(Answer::Impossible(prefix, witness, order))
 }
 
 /// Finds the first step with which there is no order.
@@ -259,7 +249,7 @@ fn first<W: Watch>(
 }
 
 /// Whether an order explains the recording, or why none does. What the search finds is judged against what the steps
-/// come to: an order by the checker of histories, and a witness by the judge of witnesses. Where a judge refuses what
+/// come to: an order by the judge of orders, and a witness by the judge of witnesses. Where a judge refuses what
 /// was found, or nothing was, the answer is Unknown.
 pub fn answer_of<W: Watch>(
     alloc: Global,
@@ -272,7 +262,7 @@ pub fn answer_of<W: Watch>(
     watch.look(recording.steps.len());
     match search(alloc, &whole.calls)? {
         Found::Order(order) => match judge_order(alloc, recording, recording.steps.len(), order)? {
-            Some(explanation) => Ok(Answer::Explained(whole, explanation)),
+            Some(order) => Ok(Answer::Explained(whole, order)),
             None => Ok(Answer::Unknown),
         },
         Found::Witness(witness) => first(alloc, recording, &whole, witness, watch),

@@ -3,4 +3,4 @@
 
 mod answer;
 
-pub use answer::{Answer, Explanation, Watch, answer_of};
+pub use answer::{Answer, Watch, answer_of};

@@ -14,3 +14,9 @@ mod Explained
 mod Found
 mod Whole
 pub mod Untold
+mod Placing
+mod Ending
+mod Ended
+mod Greatest
+mod Stands
+pub mod FewClients

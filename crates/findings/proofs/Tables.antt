@@ -1,138 +1,170 @@
--- Tables of replies by place.
-use Rattle.std.proofs.Common.{ℕ, ◌≡◌, ◌≢◌, ◌<◌, ◌≤◌, ◌+◌, List, [], ◌∷◌, Option, Some, None, slice_get, length, arith}
-use Rattle.std.proofs.Common.{ap, sym, ◌∙◌, subst, ⊎_elim, refl, get_or-set_same, get_or-set_other}
+-- An order by the places of its calls.
+use Rattle.std.proofs.Common.{ℕ, ◌≡◌, ◌≢◌, ◌<◌, ◌≤◌, ◌+◌, List, Option, Some, None, slice_get, get_or, length, take, arith, refl}
+use Rattle.std.proofs.Common.{ap, sym, ◌∙◌, subst, ⊎_elim, get_or-set_same, get_or-set_other, replicate}
 use Rattle.std.proofs.Math.ListN.{set, length-set}
-use Rattle.std.specs.Prelude.{EachIndex}
+use Rattle.std.specs.Prelude.{EachIndex, IfNone, IfSome, IsSome}
 use Rattle.std.proofs.lemmas.Bool.{cases_lt, cases_eq}
+use Rattle.std.proofs.lemmas.List.{get_or-take, get_or-replicate, length-replicate, length-take}
 use Rattle.std.proofs.lemmas.Option.{slice_get_within, slice_get-get_or, get_or_from_slice_get}
 use Rattle.words.specs.declared.call.Reply.{Reply}
+use Rattle.events.specs.declared.event.Event.{Event}
 use Rattle.events.specs.declared.event.Entry.{Entry}
-use Rattle.events.specs.Orders.{IsTakenAs, IsNew}
+use Rattle.events.specs.Orders.{InOrder, IsTakenAs, IsNew}
+use Rattle.events.specs.Replay.{call_at, call_of}
 use Rattle.words.specs.declared.told.Outcome.{Outcome}
 use Rattle.words.specs.declared.told.Outcome.TheVariants.{NotTaken, Taken}
 use Rattle.events.specs.Telling.{IsOutcome}
 use Rattle.events.proofs.Facts.{in_order_from_taken, one_reply, taken_at}
-use Rattle.findings.specs.Agreeing.{AgreesAt, IsAgreed, IsTabled, IsTableOf}
-use Rattle.findings.specs.Findings.{Agrees}
+use Rattle.history.specs.Sweeps.{HasPlace}
+use Rattle.findings.specs.Agreeing.{AgreesAt, IsAgreed, IsTableOf, Names}
+use Rattle.findings.specs.Findings.{Agrees, IsLearnt}
 
--- what a written list has at the place, and at another one
-get_written : {X : Type 0} (xs : List X) (i : ℕ) (y : X) → i < length xs → slice_get (set xs i y) i ≡ Some y
-get_written xs i y lt =
-    slice_get-get_or (set xs i y) i y (omega (arith, length-set xs i y)) ∙ ap Some (get_or-set_same xs i y y lt)
+-- between the two ways to say that a call is in a part of the order
+in_order_from_place : (order : List Entry) (n p : ℕ) → HasPlace order n p → InOrder (take n order) p
+in_order_from_place order n p has =
+    let within : has.index < length order = slice_get_within order has.index has.entry has.at in
+    let lt : has.index < length (take n order) = omega (arith, length-take n order, has.before) in
+    let is : get_or (take n order) has.index has.entry ≡ has.entry =
+    get_or-take n order has.index has.entry has.before
+    ∙ get_or_from_slice_get order has.index has.entry has.entry has.at in
+    (has.index, has.entry, lt, is, has.same)
 
-get_unwritten : {X : Type 0} (xs : List X) (i j : ℕ) (y x : X) → j ≢ i → slice_get (set xs i y) j ≡ Some x
-    → slice_get xs j ≡ Some x
-get_unwritten xs i j y x other at =
-    let lt : j < length xs = omega (arith, slice_get_within (set xs i y) j x at, length-set xs i y) in
-    slice_get-get_or xs j x lt
-    ∙ ap Some (sym (get_or-set_other xs i j y x other) ∙ get_or_from_slice_get (set xs i y) j x x at)
+place_from_in_order : (order : List Entry) (n p : ℕ) → InOrder (take n order) p → HasPlace order n p
+place_from_in_order order n p (k, x, lt, is, place) =
+    let before : k < n = omega (arith, lt, length-take n order) in
+    let within : k < length order = omega (arith, lt, length-take n order) in
+    record {
+      index = k;
+      before = before;
+      entry = x;
+      at = slice_get-get_or order k x within ∙ ap Some (sym (get_or-take n order k x before) ∙ is);
+      same = place;
+    }
 
-still_there : {X : Type 0} (xs : List X) (i j : ℕ) (y x : X) → j ≢ i → slice_get xs j ≡ Some x
-    → slice_get (set xs i y) j ≡ Some x
-still_there xs i j y x other at =
-    let lt : j < length (set xs i y) = omega (arith, slice_get_within xs j x at, length-set xs i y) in
-    slice_get-get_or (set xs i y) j x lt
-    ∙ ap Some (get_or-set_other xs i j y x other ∙ get_or_from_slice_get xs j x x at)
+pub all_places : (order : List Entry) (p : ℕ) → InOrder order p → HasPlace order (length order) p
+all_places order p (k, x, lt, is, place) = record {
+  index = k;
+  before = lt;
+  entry = x;
+  at = slice_get-get_or order k x lt ∙ ap Some is;
+  same = place;
+}
+
+-- a table of no entry
+pub table_none : (order : List Entry) (places : ℕ) → IsTableOf order 0 (replicate places (length order))
+table_none order places = record {
+  some = λ p k at lt.
+      let within : p < length (replicate places (length order)) = slice_get_within _ p k at in
+      let small : p < places = omega (arith, within, length-replicate places (length order)) in
+      let is : length order ≡ k = sym (get_or-replicate places p (length order) k small)
+      ∙ get_or_from_slice_get (replicate places (length order)) p k k at in
+      absurd (omega (arith, is));
+  none = λ p k at le has. absurd (omega (arith, has.before));
+}
 
 -- a table with one entry more
-pub table_more : (order : List Entry) (k : ℕ) (table : List (Option Reply)) (entry : Entry)
-    → slice_get order k ≡ Some entry → entry.place < length table → IsTableOf order k table
-    → IsTableOf order (k + 1) (set table entry.place (Some entry.reply))
-table_more order k table entry at within so_far = record {
-  taken = λ p reply now.
+pub table_more : (order : List Entry) (n : ℕ) (table : List ℕ) (entry : Entry) → slice_get order n ≡ Some entry
+    → entry.place < length table → IsTableOf order n table → IsTableOf order (n + 1) (set table entry.place n)
+table_more order n table entry at within so_far = record {
+  some = λ p k now lt.
+      let inside : p < length (set table entry.place n) = slice_get_within _ p k now in
+      let small : p < length table = omega (arith, inside, length-set table entry.place n) in
+      let read : get_or (set table entry.place n) p k ≡ k = get_or_from_slice_get _ p k k now in
       ⊎_elim
       (λ (same : p ≡ entry.place).
-      let here : slice_get (set table entry.place (Some entry.reply)) entry.place ≡ Some (Some entry.reply) =
-      get_written table entry.place (Some entry.reply) within in
-      let both : Some (Some entry.reply) ≡ Some (Some reply) =
-      sym here ∙ ap (slice_get (set table entry.place (Some entry.reply))) (sym same) ∙ now in
-      let replies : entry.reply ≡ reply = cc (both) in
-      taken_at order k p reply entry at (sym same) replies)
+      let here : n ≡ k = sym (get_or-set_same table entry.place n k within)
+      ∙ ap (λ (q : ℕ). get_or (set table entry.place n) q k) (sym same) ∙ read in
+      (omega arith, record { entry = entry; at = ap (slice_get order) (sym here) ∙ at; place = sym same }))
       (λ (other : p ≢ entry.place).
-      so_far.taken p reply (get_unwritten table entry.place p (Some entry.reply) (Some reply) other now))
+      let old : get_or table p k ≡ k = sym (get_or-set_other table entry.place p n k other) ∙ read in
+      let was = so_far.some p k (slice_get-get_or table p k small ∙ ap Some old) lt in
+      (omega (arith, was.0), was.1))
       (cases_eq p entry.place);
-  all = λ i x lt at_i small.
-      let small_before : x.place < length table =
-      omega (arith, small, length-set table entry.place (Some entry.reply)) in
+  none = λ p k now le has.
+      let inside : p < length (set table entry.place n) = slice_get_within _ p k now in
+      let small : p < length table = omega (arith, inside, length-set table entry.place n) in
+      let read : get_or (set table entry.place n) p k ≡ k = get_or_from_slice_get _ p k k now in
+      let less : n < length order = slice_get_within order n entry at in
       ⊎_elim
-      (λ (same : x.place ≡ entry.place). record {
-        reply = entry.reply;
-        at = ap (slice_get (set table entry.place (Some entry.reply))) same
-            ∙ get_written table entry.place (Some entry.reply) within;
-      })
-      (λ (other : x.place ≢ entry.place). ⊎_elim
-      (λ (old : i < k).
-      let before : IsTabled table x.place = so_far.all i x old at_i small_before in
-      record {
-        reply = before.reply;
-        at = still_there table entry.place x.place (Some entry.reply) (Some before.reply) other before.at;
-      })
-      (λ (new : k ≤ i). let index : i ≡ k = omega arith in
-      let entries : x ≡ entry = cc (at, at_i, ap (slice_get order) index) in
-      absurd (other (ap (λ (e : Entry). e.place) entries)))
-      (cases_lt i k))
-      (cases_eq x.place entry.place);
+      (λ (same : p ≡ entry.place).
+      let here : n ≡ k = sym (get_or-set_same table entry.place n k within)
+      ∙ ap (λ (q : ℕ). get_or (set table entry.place n) q k) (sym same) ∙ read in
+      absurd (omega arith))
+      (λ (other : p ≢ entry.place).
+      let old : get_or table p k ≡ k = sym (get_or-set_other table entry.place p n k other) ∙ read in
+      so_far.none p k (slice_get-get_or table p k small ∙ ap Some old) le (earlier p other has))
+      (cases_eq p entry.place);
+}
+  where
+    earlier : (p : ℕ) → p ≢ entry.place → HasPlace order (n + 1) p → HasPlace order n p
+    earlier p other has =
+        ⊎_elim
+        (λ (lt : has.index < n). record {
+          index = has.index;
+          before = lt;
+          entry = has.entry;
+          at = has.at;
+          same = has.same;
+        })
+        (λ (le : n ≤ has.index). let same : has.index ≡ n = omega (arith, has.before) in
+        let entries : has.entry ≡ entry = cc (at, has.at, ap (slice_get order) same) in
+        absurd (other (sym has.same ∙ ap (λ (e : Entry). e.place) entries)))
+        (cases_lt has.index n)
+
+-- the next entry names a new call, where none has its place in the table
+pub new_here : (order : List Entry) (n : ℕ) (table : List ℕ) (entry : Entry) (d : ℕ) → slice_get order n ≡ Some entry
+    → entry.place < length table → IsTableOf order n table → length order ≤ get_or table entry.place d
+    → IsNew order n
+new_here order n table entry d at within so_far le = record {
+  none = λ other at_too in_order.
+      let same : entry ≡ other = cc (at, at_too) in
+      let has : HasPlace order n entry.place = place_from_in_order order n entry.place
+      (subst (λ (e : Entry). InOrder (take n order) e.place) (sym same) in_order) in
+      so_far.none entry.place (get_or table entry.place d) (slice_get-get_or table entry.place d within) le has;
 }
 
--- an entry of a call that has no place in it
-pub table_other : (order : List Entry) (k : ℕ) (table : List (Option Reply)) (entry : Entry)
-    → slice_get order k ≡ Some entry → length table ≤ entry.place → IsTableOf order k table
-    → IsTableOf order (k + 1) table
-table_other order k table entry at out so_far = record {
-  taken = so_far.taken;
-  all = λ i x lt at_i small.
-      ⊎_elim
-      (λ (old : i < k). so_far.all i x old at_i small)
-      (λ (new : k ≤ i). let index : i ≡ k = omega arith in
-      let entries : x ≡ entry = cc (at, at_i, ap (slice_get order) index) in
-      absurd (omega (arith, ap (λ (e : Entry). e.place) entries)))
-      (cases_lt i k);
-}
+-- and otherwise not
+pub not_new : (order : List Entry) (n : ℕ) (table : List ℕ) (entry : Entry) (d : ℕ) → slice_get order n ≡ Some entry
+    → entry.place < length table → IsTableOf order n table → get_or table entry.place d < length order
+    → EachIndex order (λ i. IsNew order i) → ⊥
+not_new order n table entry d at within so_far lt each =
+    let k : ℕ = get_or table entry.place d in
+    let was = so_far.some entry.place k (slice_get-get_or table entry.place d within) lt in
+    let has : HasPlace order n entry.place =
+    record { index = k; before = was.0; entry = was.1.entry; at = was.1.at; same = was.1.place } in
+    (each n (slice_get_within order n entry at)).none entry at (in_order_from_place order n entry.place has)
 
--- what was learnt of a call is so, if the table's reply agrees with it
-pub agrees_from : (learnt : List (Option Outcome)) (table : List (Option Reply)) (order : List Entry) (p : ℕ)
-    (outcome : Outcome) (reply : Option Reply) → IsTableOf order (length order) table → slice_get table p ≡ Some reply
-    → slice_get learnt p ≡ Some (Some outcome) → IsAgreed outcome reply → AgreesAt learnt order p
-agrees_from learnt table order p outcome reply is_table at learnt_at agreed = record {
+-- what was learnt of a call is so, if its reply in the order agrees with it
+pub agrees_from : (learnt : List (Option Outcome)) (order : List Entry) (p : ℕ) (outcome : Outcome)
+    (reply : Option Reply) → IsLearnt learnt p outcome → IfSome reply (λ r. IsTakenAs order p r)
+    → IfNone reply (InOrder order p → ⊥) → IsAgreed outcome reply → AgreesAt learnt order p
+agrees_from learnt order p outcome reply learnt_at some none agreed = record {
   agrees = λ other is.
       let both : Some (Some outcome) ≡ Some (Some other) = sym learnt_at ∙ is in
       let same : outcome ≡ other = cc (both) in
-      subst (IsOutcome order p) same (go outcome reply at agreed);
+      subst (IsOutcome order p) same (go outcome reply some none agreed);
 }
   where
-    go : (outcome : Outcome) (reply : Option Reply) → slice_get table p ≡ Some reply → IsAgreed outcome reply
-        → IsOutcome order p outcome
-    go NotTaken None at agreed = λ (k, x, lt, is, place).
-        let at_k : slice_get order k ≡ Some x = slice_get-get_or order k x lt ∙ ap Some is in
-        let small : x.place < length table = omega (arith, place, slice_get_within table p None at) in
-        let tabled : IsTabled table x.place = is_table.all k x lt at_k small in
-        let both : Some None ≡ Some (Some tabled.reply) = sym at ∙ ap (slice_get table) (sym place) ∙ tabled.at in
-        cc (both)
-    go NotTaken (Some other) at agreed = absurd agreed
-    go (Taken expected) None at agreed = absurd agreed
-    go (Taken expected) (Some other) at agreed =
-        subst (IsTakenAs order p) agreed (is_table.taken p other at)
+    go : (outcome : Outcome) (reply : Option Reply) → IfSome reply (λ r. IsTakenAs order p r)
+        → IfNone reply (InOrder order p → ⊥) → IsAgreed outcome reply → IsOutcome order p outcome
+    go NotTaken None some none agreed = none
+    go NotTaken (Some other) some none agreed = absurd agreed
+    go (Taken expected) None some none agreed = absurd agreed
+    go (Taken expected) (Some other) some none agreed = subst (IsTakenAs order p) agreed some
 
-pub agreed_from : (learnt : List (Option Outcome)) (table : List (Option Reply)) (order : List Entry) (p : ℕ)
-    (outcome : Outcome) (reply : Option Reply) → IsTableOf order (length order) table
-    → EachIndex order (λ i. IsNew order i) → slice_get table p ≡ Some reply
-    → slice_get learnt p ≡ Some (Some outcome) → AgreesAt learnt order p → IsAgreed outcome reply
-agreed_from learnt table order p outcome reply is_table once at learnt_at agrees =
-    go outcome reply at (agrees.agrees outcome learnt_at)
+pub agreed_from : (learnt : List (Option Outcome)) (order : List Entry) (p : ℕ) (outcome : Outcome)
+    (reply : Option Reply) → EachIndex order (λ i. IsNew order i) → IsLearnt learnt p outcome
+    → IfSome reply (λ r. IsTakenAs order p r) → IfNone reply (InOrder order p → ⊥) → AgreesAt learnt order p
+    → IsAgreed outcome reply
+agreed_from learnt order p outcome reply once learnt_at some none agrees =
+    go outcome reply some none (agrees.agrees outcome learnt_at)
   where
-    go : (outcome : Outcome) (reply : Option Reply) → slice_get table p ≡ Some reply → IsOutcome order p outcome
-        → IsAgreed outcome reply
-    go NotTaken None at is = tt
-    go NotTaken (Some other) at is = is (in_order_from_taken order p other (is_table.taken p other at))
-    go (Taken expected) None at is =
-        let at_k : slice_get order is.0 ≡ Some (record { place = p; reply = expected }) =
-        slice_get-get_or order is.0 _ is.1 ∙ ap Some is.2 in
-        let tabled : IsTabled table p = is_table.all is.0 (record { place = p; reply = expected }) is.1 at_k
-        (slice_get_within table p None at) in
-        let both : Some None ≡ Some (Some tabled.reply) = sym at ∙ tabled.at in
-        cc (both)
-    go (Taken expected) (Some other) at is =
-        one_reply order once p other expected (is_table.taken p other at) is
+    go : (outcome : Outcome) (reply : Option Reply) → IfSome reply (λ r. IsTakenAs order p r)
+        → IfNone reply (InOrder order p → ⊥) → IsOutcome order p outcome → IsAgreed outcome reply
+    go NotTaken None some none is = tt
+    go NotTaken (Some other) some none is = is (in_order_from_taken order p other some)
+    go (Taken expected) None some none is = none (in_order_from_taken order p expected is)
+    go (Taken expected) (Some other) some none is = one_reply order once p other expected some is
 
 -- what was learnt of each call is what was learnt
 pub agrees_all : (learnt : List (Option Outcome)) (order : List Entry) (n : ℕ) → length learnt ≤ n
@@ -147,6 +179,23 @@ pub agrees_each : (learnt : List (Option Outcome)) (order : List Entry) → Agre
     → AgreesAt learnt order p
 agrees_each learnt order agrees p = record { agrees = λ outcome is. agrees.each p outcome is }
 
-pub empty_list : {X : Type 0} (xs : List X) → length xs ≤ 0 → xs ≡ []
-empty_list {X} [] le = refl
-empty_list {X} (x ∷ xs) le = absurd (omega arith)
+-- the reply by the number at a place
+pub taken_here : (order : List Entry) (table : List ℕ) (p k : ℕ) (entry : Entry)
+    → IsTableOf order (length order) table → slice_get table p ≡ Some k → slice_get order k ≡ Some entry
+    → IsTakenAs order p entry.reply
+taken_here order table p k entry is at at_k =
+    let named : Names order k p = (is.some p k at (slice_get_within order k entry at_k)).1 in
+    let same : named.entry ≡ entry = cc (at_k, named.at) in
+    taken_at order k p entry.reply entry at_k (sym (ap (λ (e : Entry). e.place) same) ∙ named.place) refl
+
+pub none_here : (order : List Entry) (table : List ℕ) (p k : ℕ) → IsTableOf order (length order) table
+    → slice_get table p ≡ Some k → length order ≤ k → InOrder order p → ⊥
+none_here order table p k is at le in_order = is.none p k at le (all_places order p in_order)
+
+-- a call that is named stands among the events
+pub named_within : (events : List Event) (p : ℕ) → IsSome (call_at events p) → p < length events
+named_within events p some = go (slice_get events p) refl
+  where
+    go : (event : Option Event) → slice_get events p ≡ event → p < length events
+    go (Some event) at = slice_get_within events p event at
+    go None at = let none : IsSome (call_of None) = subst (λ (e : Option Event). IsSome (call_of e)) at some in cc none

@@ -1,30 +1,34 @@
 -- An order by the places of its calls.
-use Rattle.std.specs.Prelude.{ℕ, ◌≡◌, ◌<◌, ⊤, List, [], Option, Some, None, slice_get, length}
+use Rattle.std.specs.Prelude.{ℕ, EachIndex, ◌≡◌, ◌<◌, ◌≤◌, ⊤, List, Option, Some, None, slice_get, length}
 use Rattle.words.specs.declared.call.Reply.{Reply}
 use Rattle.words.specs.declared.told.Outcome.{Outcome}
 use Rattle.words.specs.declared.told.Outcome.TheVariants.{NotTaken, Taken}
 use Rattle.events.specs.declared.event.Entry.{Entry}
-use Rattle.events.specs.declared.event.History.{History}
-use Rattle.events.specs.declared.event.Order.{Order}
-use Rattle.events.specs.Explains.{IsExplained}
-use Rattle.events.specs.Orders.{IsTakenAs}
+use Rattle.events.specs.Orders.{IsNew}
 use Rattle.events.specs.Telling.{IsOutcome}
-use Rattle.findings.specs.Findings.{Agrees, ExplainsFindings, IsLearnt}
+use Rattle.findings.specs.Findings.{IsLearnt}
+use Rattle.history.specs.Sweeps.{HasPlace}
 
 -- what was learnt of the call at p is so in the order
 pub record AgreesAt (learnt : List (Option Outcome)) (order : List Entry) (p : ℕ) : Type 0 where
   pub agrees : (outcome : Outcome) → IsLearnt learnt p outcome → IsOutcome order p outcome
 
--- the call at p has a reply in the table
-pub record IsTabled (table : List (Option Reply)) (p : ℕ) : Type 0 where
-  pub reply : Reply
-  pub at : slice_get table p ≡ Some (Some reply)
+-- the entry of this number names the call at p
+pub record Names (order : List Entry) (k p : ℕ) : Type 0 where
+  pub entry : Entry
+  pub at : slice_get order k ≡ Some entry
+  pub place : entry.place ≡ p
 
--- a table has the replies of the first k entries, by the places of their calls
-pub record IsTableOf (order : List Entry) (k : ℕ) (table : List (Option Reply)) : Type 0 where
-  pub taken : (p : ℕ) (reply : Reply) → slice_get table p ≡ Some (Some reply) → IsTakenAs order p reply
-  pub all : (i : ℕ) (entry : Entry) → i < k → slice_get order i ≡ Some entry → entry.place < length table
-      → IsTabled table entry.place
+-- a table has the numbers of the first n entries at the places of their calls, and no entry's number elsewhere
+pub record IsTableOf (order : List Entry) (n : ℕ) (table : List ℕ) : Type 0 where
+  pub some : (p k : ℕ) → slice_get table p ≡ Some k → k < length order → (k < n) × Names order k p
+  pub none : (p k : ℕ) → slice_get table p ≡ Some k → length order ≤ k → HasPlace order n p → ⊥
+
+-- it has those of all, of which none names the call of another, at so many places
+pub record IsIndexOf (order : List Entry) (places : ℕ) (table : List ℕ) : Type 0 where
+  pub numbers : IsTableOf order (length order) table
+  pub once : EachIndex order (λ i. IsNew order i)
+  pub count : length table ≡ places
 
 -- the outcome is that of a call with this reply in the order, or with none
 abbrev pub IsAgreed : Outcome → Option Reply → Type 0
@@ -32,12 +36,3 @@ IsAgreed NotTaken None = ⊤
 IsAgreed NotTaken (Some reply) = ⊥
 IsAgreed (Taken reply) None = ⊥
 IsAgreed (Taken reply) (Some other) = other ≡ reply
-
--- the order explains the history, of a queue that was empty at first, and what was learnt is so in it
-abbrev pub IsRight : History → List (Option Outcome) → Order → Type 0
-IsRight history learnt order =
-    IsExplained history order × ((history.base.items ≡ []) × Agrees learnt order.entries.items)
-
--- the order explains what is known of the history's calls: what they returned, and what was learnt of them
-abbrev pub ExplainsKnown : History → List (Option Outcome) → Order → Type 0
-ExplainsKnown history learnt order = ExplainsFindings history.events.items learnt order.entries.items

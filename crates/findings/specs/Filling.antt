@@ -1,5 +1,5 @@
 -- Histories whose Readys tell what somebody learnt.
-use Rattle.std.specs.Prelude.{ℕ, ◌≡◌, ◌+◌, List, [], Option, Some, slice_get, length, replicate}
+use Rattle.std.specs.Prelude.{ℕ, ◌≡◌, ◌<◌, ◌+◌, ⊤, List, [], Option, Some, slice_get, length, replicate}
 use Rattle.words.specs.declared.call.Call.{Call}
 use Rattle.words.specs.declared.call.Client.{Client}
 use Rattle.words.specs.declared.call.Reply.{Reply}
@@ -12,7 +12,8 @@ use Rattle.events.specs.declared.event.Event.TheVariants.{Call as call_event, Re
 use Rattle.events.specs.declared.event.Event.TheVariants.{Crash as crash_event, Ready as ready_event}
 use Rattle.events.specs.declared.event.Entry.{Entry}
 use Rattle.events.specs.Explains.{Explains}
-use Rattle.events.specs.History.{CallAt, ReturnAt, CrashAt, ReadyAt, IsEnd, IsHistory}
+use Rattle.events.specs.History.{CallAt, ReturnAt, CrashAt, ReadyAt, IsDown, IsEnd, IsHistory}
+use Rattle.events.specs.History.{IsUnderWay}
 use Rattle.events.specs.Telling.{IsNextReady}
 use Rattle.findings.specs.Findings.{IsLearnt}
 
@@ -28,6 +29,25 @@ pub record IsInterrupted (events : List Event) (p : ℕ) : Type 0 where
   pub ready : ℕ
   pub tells : List Told
   pub next : IsNextReady events end ready tells
+
+-- what may stand at p, as in a history that may arise (`MayStand`), but with any number of clients
+abbrev pub MayStandAmongAny : List Event → ℕ → Event → Type 0
+MayStandAmongAny events p (call_event client number call) = ¬ (IsUnderWay events client p) × ¬ (IsDown events p)
+MayStandAmongAny events p (return_event client reply) = IsUnderWay events client p × ¬ (IsDown events p)
+MayStandAmongAny events p crash_event = ⊤
+MayStandAmongAny events p (ready_event told) = ⊤
+
+-- what a recorder knows of any number of clients: each event may stand where it stands, calls have numbers by their
+-- places, and something was learnt of calls that crashes interrupted alone
+pub record IsRecordedOfAny (events : List Event) (learnt : List (Option Outcome)) : Type 0 where
+  pub places : (p : ℕ) (event : Event) → slice_get events p ≡ Some event → MayStandAmongAny events p event
+  pub numbers : (p number : ℕ) (client : Client) (call : Call) → CallAt events p client number call → number ≡ p + 1
+  pub interrupted : (p : ℕ) (outcome : Outcome) → IsLearnt learnt p outcome → IsInterrupted events p
+
+-- the clients are those of one queue of this repository: 0 to 15
+pub record HasFewClients (events : List Event) : Type 0 where
+  pub each : (p number : ℕ) (client : Client) (call : Call) → CallAt events p client number call
+      → client.0 < MAX_CLIENTS
 
 -- what a recorder knows: a history that may arise, whose calls have numbers by their places, so none twice, and what
 -- was learnt of calls that crashes interrupted
@@ -62,13 +82,6 @@ pub record IsFilling (events : List Event) (learnt : List (Option Outcome)) (fil
 -- nobody was told anything before
 abbrev pub told_nothing : List Told
 told_nothing = replicate MAX_CLIENTS told_none
-
--- the event; but a Ready tells nobody anything
-abbrev pub untold : Event → Event
-untold (call_event client number call) = call_event client number call
-untold (return_event client reply) = return_event client reply
-untold crash_event = crash_event
-untold (ready_event told) = ready_event told_nothing
 
 -- some filling is a history that may arise, and the order explains it
 pub record SomeFillingIsExplained (events : List Event) (learnt : List (Option Outcome)) (order : List Entry)

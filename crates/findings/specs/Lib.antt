@@ -8,3 +8,6 @@ pub mod Shows
 pub mod Agreeing
 pub mod Filling
 pub mod FourPatterns
+pub mod Facts
+pub mod Ends
+pub mod Standing

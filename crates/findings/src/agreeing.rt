@@ -1,41 +1,52 @@
-//! Whether an order agrees with what was learnt, beside explaining a history.
+//! An order by the places of its calls, and whether it has what is known of them.
 
-ghost use Rattle.std.specs.Prelude.{◌≡◌, ◌<◌, ◌≤◌, ◌+◌, ◌↔◌, length, EachIndex, IfErr, IfOk, IsTrue};
-ghost use Rattle.events.specs.Orders.{IsNew};
-ghost use Rattle.findings.specs.Agreeing.{AgreesAt, ExplainsKnown, IsAgreed, IsRight, IsTableOf};
+ghost use Rattle.std.specs.Prelude.{◌<◌, ◌↔◌, length, All, EachIndex, IfNone, IfOk, IfSome, IsTrue};
+ghost use Rattle.events.specs.Explains.{IsAnswered};
+ghost use Rattle.events.specs.Orders.{InOrder, IsNew, IsTakenAs};
+ghost use Rattle.findings.specs.Agreeing.{AgreesAt, IsAgreed, IsIndexOf, IsTableOf};
 ghost use Rattle.findings.specs.Findings.{Agrees};
 
-use checker::check;
-use events::{Entry, History, Order, is_same_reply};
+use crate::facts::Findings;
+use crate::known::returned_reply;
+use events::{Entry, is_same_reply};
 use std::alloc::{AllocError, Global};
-use words::{Outcome, Refusal, Reply};
+use words::{Outcome, Reply};
 
-/// Notes the reply of the entry at `i`.
-fn note_reply(table: &mut [Option<Reply>], entries: &[Entry], i: usize)
-    requires within { i < length entries.now }
-    requires table { IsTableOf entries.now i table.old }
-    ensures { IsTableOf entries.now (i + 1) table.new }
-{
-    let entry = entries[i];
-    if entry.place < table.len() {
-        table[entry.place] = Some(entry.reply);
-    }
-}
-
-/// The replies of the entries, by the places of their calls, of which there are at most so many.
-fn replies_by_place(
+/// At each of so many places the number of the entry whose call is there, and a greater one where there is none. Nothing
+/// if a call is named twice.
+pub(crate) fn numbers_by_place(
     alloc: Global,
     places: usize,
     entries: &[Entry],
-) -> Result<Vec<Option<Reply>>, AllocError>
-    ensures table { IfOk result (λ table. IsTableOf entries.now (length entries.now) table.items) }
-    ensures places { IfOk result (λ table. length table.items ≡ places) }
+) -> Result<Option<Vec<usize>>, AllocError>
+    requires { All (λ entry. entry.place < places) entries.now }
+    ensures some { IfOk result (λ found. IfSome found (λ table. IsIndexOf entries.now places table.items)) }
+    ensures none { IfOk result (λ found. IfNone found (EachIndex entries.now (λ i. IsNew entries.now i) → ⊥)) }
 {
-    let mut table = vec![in alloc; None; places]?;
+    let mut table = vec![in alloc; entries.len(); places]?;
     for i in 0..entries.len() {
-        note_reply(&mut table, entries, i);
+        let place = entries[i].place;
+        if table[place] < entries.len() {
+            return Ok(None);
+        }
+        table[place] = i;
     }
-    Ok(table)
+    Ok(Some(table))
+}
+
+/// The reply of the call at `p` in the order, if it is in it.
+fn reply_at(entries: &[Entry], table: &[usize], p: usize) -> Option<Reply>
+    requires place { p < length table.now }
+    requires table { IsTableOf entries.now (length entries.now) table.now }
+    ensures some { IfSome result (λ reply. IsTakenAs entries.now p reply) }
+    ensures none { IfNone result (InOrder entries.now p → ⊥) }
+{
+    let number = table[p];
+    if number < entries.len() {
+        Some(entries[number].reply)
+    } else {
+        None
+    }
 }
 
 /// Whether the outcome is that of a call with this reply in the order, or with none.
@@ -52,59 +63,56 @@ fn is_agreed(outcome: Outcome, reply: Option<Reply>) -> bool
 }
 
 /// Whether what was learnt of the call at `p` is so in the order.
-fn agrees_at(
-    learnt: &[Option<Outcome>],
-    table: &[Option<Reply>],
-    entries: &[Entry],
-    p: usize,
-) -> bool
-    requires places { p < length table.now }
+fn agrees_at(findings: &Findings, entries: &[Entry], table: &[usize], p: usize) -> bool
+    requires place { p < length table.now }
     requires table { IsTableOf entries.now (length entries.now) table.now }
     requires once { EachIndex entries.now (λ i. IsNew entries.now i) }
-    ensures { IsTrue result ↔ AgreesAt learnt.now entries.now p }
+    ensures { IsTrue result ↔ AgreesAt findings.now.learnt entries.now p }
 {
-    let Some(Some(outcome)) = learnt.get(p) else {
-        return true;
-    };
-    is_agreed(*outcome, table[p])
+    match findings.learnt_at(p) {
+        Some(outcome) => is_agreed(outcome, reply_at(entries, table, p)),
+        None => true,
+    }
 }
 
 /// Whether what was learnt of each call is so in the order.
-fn all_agree(learnt: &[Option<Outcome>], table: &[Option<Reply>], entries: &[Entry]) -> bool
-    requires places { length learnt.now ≤ length table.now }
-    requires table { IsTableOf entries.now (length entries.now) table.now }
-    requires once { EachIndex entries.now (λ i. IsNew entries.now i) }
-    ensures { IsTrue result ↔ Agrees learnt.now entries.now }
+pub(crate) fn all_agree(findings: &Findings, entries: &[Entry], table: &[usize]) -> bool
+    requires { IsIndexOf entries.now (length findings.now.events) table.now }
+    ensures { IsTrue result ↔ Agrees findings.now.learnt entries.now }
 {
-    for p in 0..learnt.len() {
-        if !agrees_at(learnt, table, entries, p) {
+    for p in 0..findings.len() {
+        if !agrees_at(findings, entries, table, p) {
             return false;
         }
     }
     true
 }
 
-/// Whether the order explains the history, of a queue that is empty at first, and agrees with what was learnt. So it
-/// explains what is known of the calls, too. NoMemory where it was refused for the comparison.
-pub fn explains_known(
-    alloc: Global,
-    history: &History,
-    learnt: &[Option<Outcome>],
-    order: &Order,
-) -> Result<bool, Refusal>
-    ensures right { IfOk result (λ yes. IsTrue yes ↔ IsRight history.now learnt.now order.now) }
-    ensures explained { IfOk result (λ yes. IsTrue yes → ExplainsKnown history.now learnt.now order.now) }
-    ensures errors { IfErr result (λ e. e ≡ Refusal.NoMemory) }
+/// Whether the call at `p`, if it is complete, is in the order with the reply that it returned.
+fn is_answered(findings: &Findings, entries: &[Entry], table: &[usize], p: usize) -> bool
+    requires place { p < length table.now }
+    requires table { IsTableOf entries.now (length entries.now) table.now }
+    requires once { EachIndex entries.now (λ i. IsNew entries.now i) }
+    ensures { IsTrue result ↔ IsAnswered findings.now.events entries.now p }
 {
-    if !check(history, order) {
-        return Ok(false);
-    }
-    if history.base.as_slice().len() > 0 {
-        return Ok(false);
-    }
-    let entries = order.entries.as_slice();
-    let Ok(table) = replies_by_place(alloc, learnt.len(), entries) else {
-        return Err(Refusal::NoMemory);
+    let Some(returned) = returned_reply(findings, p) else {
+        return true;
     };
-    Ok(all_agree(learnt, &table, entries))
+    match reply_at(entries, table, p) {
+        Some(reply) => is_same_reply(&reply, &returned),
+        None => false,
+    }
+}
+
+/// Whether each complete call is in the order with the reply that it returned.
+pub(crate) fn all_answered(findings: &Findings, entries: &[Entry], table: &[usize]) -> bool
+    requires { IsIndexOf entries.now (length findings.now.events) table.now }
+    ensures { IsTrue result ↔ EachIndex findings.now.events (λ p. IsAnswered findings.now.events entries.now p) }
+{
+    for p in 0..findings.len() {
+        if !is_answered(findings, entries, table, p) {
+            return false;
+        }
+    }
+    true
 }

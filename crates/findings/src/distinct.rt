@@ -4,18 +4,18 @@ ghost use Rattle.std.specs.Prelude.{IsTrue};
 ghost use Rattle.std.specs.List.Sorted.{IsStrictlyIncreasing};
 ghost use Rattle.findings.specs.Findings.{HasDistinctValues};
 
+use crate::facts::Findings;
 use crate::known::value_of_put;
 use crate::rank::rank_of;
-use events::Events;
 
 /// Whether the numbers of the values that calls put rise from call to call: then no two are the same. Whoever numbers
 /// values by their puts has them rise.
-pub(crate) fn values_rise(events: &Events) -> bool
-    ensures { IsTrue result → HasDistinctValues events.now.items }
+pub(crate) fn values_rise(findings: &Findings) -> bool
+    ensures { IsTrue result → HasDistinctValues findings.now.events }
 {
     let mut least: u64 = 0;
-    for p in 0..events.len() {
-        if let Some(value) = value_of_put(events, p) {
+    for p in 0..findings.len() {
+        if let Some(value) = value_of_put(findings, p) {
             let rank = u64::from(rank_of(value));
             if rank < least {
                 return false;

@@ -1,25 +1,16 @@
 //! What is known of one call.
 
-ghost use Rattle.std.specs.Prelude.{◌≡◌, ◌<◌, ◌↔◌, length, IfNone, IfSome, IsTrue};
+ghost use Rattle.std.specs.Prelude.{◌≡◌, ◌↔◌, IfNone, IfSome, IsTrue};
 ghost use Rattle.words.specs.PlainQueue.{Value};
 ghost use Rattle.words.specs.declared.call.Call.TheVariants.{Enq};
-ghost use Rattle.events.specs.History.{EndsAt, Precedes};
+ghost use Rattle.words.specs.declared.call.Reply.{Reply};
+ghost use Rattle.events.specs.History.{Precedes};
 ghost use Rattle.findings.specs.Findings.{IsLearnt, IsReturned, IsKnown, PutsAt, TakesAt, IsOverBy};
 
-use events::{Event, Events, is_same_outcome, is_same_reply, is_same_value};
-use words::{Call, Client, Outcome, Reply, Value};
-
-/// Whether what stands at `p` ends a call of the client.
-fn ends_at(events: &Events, client: Client, p: usize) -> bool
-    requires { p < length events.now.items }
-    ensures { IsTrue result ↔ EndsAt events.now.items client p }
-{
-    match events.at(p) {
-        Event::Return { client: other, .. } => other == client,
-        Event::Crash => true,
-        _ => false,
-    }
-}
+use crate::fact::Fact;
+use crate::facts::Findings;
+use events::{is_same_outcome, is_same_reply, is_same_value};
+use words::{Call, Outcome, Reply, Value};
 
 /// The value that the call puts, if it puts one.
 fn value_put(call: Call) -> Option<Value>
@@ -43,122 +34,96 @@ fn puts(call: Call, value: &Value) -> bool
 }
 
 /// Whether the call at `p` puts this value.
-pub(crate) fn puts_at(events: &Events, p: usize, value: &Value) -> bool
-    ensures { IsTrue result ↔ PutsAt events.now.items p value.now }
+pub(crate) fn puts_at(findings: &Findings, p: usize, value: &Value) -> bool
+    ensures { IsTrue result ↔ PutsAt findings.now.events p value.now }
 {
-    match events.get(p) {
-        Some(Event::Call { call, .. }) => puts(call, value),
-        _ => false,
+    match findings.call_at(p) {
+        Some(call) => puts(call, value),
+        None => false,
     }
 }
 
 /// Whether the call at `p` takes.
-pub(crate) fn takes_at(events: &Events, p: usize) -> bool
-    ensures { IsTrue result ↔ TakesAt events.now.items p }
+pub(crate) fn takes_at(findings: &Findings, p: usize) -> bool
+    ensures { IsTrue result ↔ TakesAt findings.now.events p }
 {
-    match events.get(p) {
-        Some(Event::Call { call, .. }) => matches!(call, Call::Deq),
-        _ => false,
+    match findings.call_at(p) {
+        Some(call) => matches!(call, Call::Deq),
+        None => false,
     }
 }
 
 /// The value that the call at `p` puts, if it puts one.
-pub(crate) fn value_of_put(events: &Events, p: usize) -> Option<Value>
-    ensures found { IfSome result (λ value. PutsAt events.now.items p value) }
-    ensures none { IfNone result ((value : Value) → PutsAt events.now.items p value → ⊥) }
+pub(crate) fn value_of_put(findings: &Findings, p: usize) -> Option<Value>
+    ensures found { IfSome result (λ value. PutsAt findings.now.events p value) }
+    ensures none { IfNone result ((value : Value) → PutsAt findings.now.events p value → ⊥) }
 {
-    match events.get(p) {
-        Some(Event::Call { call, .. }) => value_put(call),
-        _ => None,
+    match findings.call_at(p) {
+        Some(call) => value_put(call),
+        None => None,
     }
 }
 
 /// Whether this was learnt of the call at `p`.
-pub(crate) fn is_learnt(learnt: &[Option<Outcome>], p: usize, outcome: Outcome) -> bool
-    ensures { IsTrue result ↔ IsLearnt learnt.now p outcome }
+pub(crate) fn is_learnt(findings: &Findings, p: usize, outcome: Outcome) -> bool
+    ensures { IsTrue result ↔ IsLearnt findings.now.learnt p outcome }
 {
-    match learnt.get(p) {
-        Some(Some(other)) => is_same_outcome(other, &outcome),
-        _ => false,
+    match findings.learnt_at(p) {
+        Some(other) => is_same_outcome(&other, &outcome),
+        None => false,
     }
 }
 
 /// The reply that the call at `p` returned, if it returned one.
-fn returned_reply(events: &Events, p: usize) -> Option<Reply>
-    ensures { IfSome result (λ reply. IsReturned events.now.items p reply) }
+pub(crate) fn returned_reply(findings: &Findings, p: usize) -> Option<Reply>
+    ensures some { IfSome result (λ reply. IsReturned findings.now.events p reply) }
+    ensures none { IfNone result ((reply : Reply) → IsReturned findings.now.events p reply → ⊥) }
 {
-    let Some(Event::Call { client, .. }) = events.get(p) else {
+    let Some(end) = findings.end(p) else {
         return None;
     };
-    for k in p + 1..events.len() {
-        match events.at(k) {
-            Event::Return {
-                client: other,
-                reply,
-            } => {
-                if other == client {
-                    return Some(reply);
-                }
-            }
-            Event::Crash => return None,
-            _ => {}
-        }
+    match findings.at(end) {
+        Fact::Return { reply, .. } => Some(reply.reply()),
+        _ => None,
     }
-    None
 }
 
 /// The reply with which the call at `p` is known to have taken effect, if it is.
-pub(crate) fn known_reply(events: &Events, learnt: &[Option<Outcome>], p: usize) -> Option<Reply>
-    ensures { IfSome result (λ reply. IsKnown events.now.items learnt.now p reply) }
+pub(crate) fn known_reply(findings: &Findings, p: usize) -> Option<Reply>
+    ensures { IfSome result (λ reply. IsKnown findings.now.events findings.now.learnt p reply) }
 {
-    if let Some(Some(Outcome::Taken(reply))) = learnt.get(p) {
-        return Some(*reply);
+    if let Some(Outcome::Taken(reply)) = findings.learnt_at(p) {
+        return Some(reply);
     }
-    returned_reply(events, p)
+    returned_reply(findings, p)
 }
 
 /// Whether the call at `p` is known to have taken effect with this reply.
-pub(crate) fn is_known(events: &Events, learnt: &[Option<Outcome>], p: usize, reply: Reply) -> bool
-    ensures { IsTrue result → IsKnown events.now.items learnt.now p reply }
+pub(crate) fn is_known(findings: &Findings, p: usize, reply: Reply) -> bool
+    ensures { IsTrue result → IsKnown findings.now.events findings.now.learnt p reply }
 {
-    match known_reply(events, learnt, p) {
+    match known_reply(findings, p) {
         Some(other) => is_same_reply(&other, &reply),
         None => false,
     }
 }
 
 /// Whether the call at `p` ended at `t` or before.
-pub(crate) fn is_over_by(events: &Events, p: usize, t: usize) -> bool
-    ensures { IsTrue result ↔ IsOverBy events.now.items p t }
+pub(crate) fn is_over_by(findings: &Findings, p: usize, t: usize) -> bool
+    ensures { IsTrue result ↔ IsOverBy findings.now.events p t }
 {
-    let Some(Event::Call { client, .. }) = events.get(p) else {
-        return false;
-    };
-    for k in p + 1..events.len() {
-        if k > t {
-            return false;
-        }
-        if ends_at(events, client, k) {
-            return true;
-        }
+    match findings.end(p) {
+        Some(end) => end <= t,
+        None => false,
     }
-    false
 }
 
 /// Whether the call at `a` ended before `b`.
-pub(crate) fn precedes(events: &Events, a: usize, b: usize) -> bool
-    ensures { IsTrue result → Precedes events.now.items a b }
+pub(crate) fn precedes(findings: &Findings, a: usize, b: usize) -> bool
+    ensures { IsTrue result ↔ Precedes findings.now.events a b }
 {
-    let Some(Event::Call { client, .. }) = events.get(a) else {
-        return false;
-    };
-    for k in a + 1..events.len() {
-        if k >= b {
-            return false;
-        }
-        if ends_at(events, client, k) {
-            return true;
-        }
+    match findings.end(a) {
+        Some(end) => end < b,
+        None => false,
     }
-    false
 }

@@ -5,7 +5,7 @@ ghost use Rattle.std.specs.Prelude.{◌↔◌, ◌⊎◌, List, Option};
 ghost use Rattle.words.specs.declared.told.Outcome.{Outcome};
 ghost use Rattle.events.specs.declared.event.Event.{Event};
 ghost use Rattle.events.specs.declared.event.Entry.{Entry};
-ghost use Rattle.findings.specs.Filling.{IsRecorded, SomeFillingIsExplained};
+ghost use Rattle.findings.specs.Filling.{HasFewClients, IsRecorded, IsRecordedOfAny, SomeFillingIsExplained};
 ghost use Rattle.findings.specs.Findings.{ExplainsFindings, HasNoOrder};
 ghost use Rattle.findings.specs.FourPatterns.{HasOrder, HasPattern, IsOfQueue};
 ghost use Rattle.findings.specs.Shows.{Shows};
@@ -40,4 +40,10 @@ pub fn recordings_have_an_order_without_patterns()
 pub fn witnesses_show_patterns()
     ensures { (events : List Event) (learnt : List (Option Outcome)) (witness : Witness)
         → Shows events learnt witness → HasPattern events learnt }
+{}
+
+/// A recorded history of any clients is one that may arise, where its clients are those of one queue.
+pub fn few_clients_are_recorded()
+    ensures { (events : List Event) (learnt : List (Option Outcome))
+        → IsRecordedOfAny events learnt → HasFewClients events → IsRecorded events learnt }
 {}

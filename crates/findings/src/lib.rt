@@ -4,18 +4,28 @@
 
 mod agreeing;
 mod distinct;
+mod explaining;
+mod fact;
+mod facts;
 mod judging;
 mod known;
 mod lacking;
 mod laws;
+mod preceding;
 mod rank;
+mod recorded;
+mod replaying;
 mod witness;
 
-pub use agreeing::explains_known;
+pub use explaining::explains_findings;
+pub use fact::{Fact, RankedCall, RankedReply};
+pub use facts::{Facts, Findings};
 pub use judging::refutes;
 pub use laws::{
-    findings_are_fillings, patterns_refute, recordings_have_an_order_or_a_pattern,
-    recordings_have_an_order_without_patterns, witnesses_show_patterns,
+    few_clients_are_recorded, findings_are_fillings, patterns_refute,
+    recordings_have_an_order_or_a_pattern, recordings_have_an_order_without_patterns,
+    witnesses_show_patterns,
 };
 pub use rank::{rank_of, ranked};
+pub use recorded::is_recorded;
 pub use witness::{Ahead, Lack, Piece, Since, Witness};

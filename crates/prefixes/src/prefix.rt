@@ -33,21 +33,26 @@ fn refused(alloc: Global, recording: &Recording, count: usize) -> Result<Vec<boo
     Ok(refused)
 }
 
-/// Calls that are put together, and which of them hold the sixteen numbers.
+/// Calls that are put together, and by the numbers of clients those that are open.
 #[derive(Drop)]
 struct Walk {
     calls: Calls,
     step_of: Vec<usize>,
     /// For each call one more than its number among those that are not refused, and 0 for the others.
     number_of: Vec<usize>,
-    holders: [usize; 16],
+    holders: Vec<usize>,
 }
 
 impl Walk {
-    fn hold(&mut self, client: u8, number: usize) {
+    /// One more than the number of the client's open call is this, and 0 if it has none.
+    fn hold(&mut self, client: u32, number: usize) -> Result<(), AllocError> {
+        for _ in self.holders.len()..(client as usize).saturating_add(1) {
+            self.holders.push(0usize)?;
+        }
         if let Some(holder) = self.holders.get_mut(client as usize) {
             *holder = number;
         }
+        Ok(())
     }
 
     /// One more than the number of a call, and 0 if it is not there.
@@ -63,7 +68,7 @@ impl Walk {
         if let Some(place) = self.number_of.get_mut(call) {
             *place = number;
         }
-        self.hold(of.number, number);
+        self.hold(of.number, number)?;
         self.step_of.push(step)?;
         Ok(())
     }
@@ -80,19 +85,18 @@ impl Walk {
         };
         let number = self.number(call).wrapping_sub(1);
         self.calls.answer(number, recording.reply_of(said));
-        self.hold(of.number, 0);
+        self.hold(of.number, 0)?;
         self.step_of.push(step)?;
         Ok(())
     }
 
     fn crash(&mut self, step: usize) -> Result<(), AllocError> {
-        for client in 0..16usize {
-            let number = self.holders[client];
-            if number > 0 {
+        for number in &self.holders {
+            if *number > 0 {
                 self.calls.interrupt(number.wrapping_sub(1));
             }
-            self.holders[client] = 0;
         }
+        self.holders.clear();
         self.calls.crash()?;
         self.step_of.push(step)?;
         self.step_of.push(step)?;
@@ -140,7 +144,7 @@ pub fn prefix_of(alloc: Global, recording: &Recording, count: usize) -> Result<P
         calls: Calls::new(alloc),
         step_of: Vec::new(alloc),
         number_of,
-        holders: [0; 16],
+        holders: Vec::new(alloc),
     };
     for step in 0..count.min(recording.steps.len()) {
         walk.take(recording, &refused, step)?;

@@ -12,7 +12,8 @@ read_of reader = record {
   states = reader.states.items;
   values = map string_bytes reader.values.keys;
   put = reader.put.items;
-  held = reader.held.items;
+  numbers = reader.numbers;
+  free = reader.free.items;
   calls = reader.calls.items;
   steps = reader.steps.items;
 }

@@ -1,7 +1,7 @@
 -- What the lines without times add to what has been read of a recording.
-use Rattle.std.specs.Prelude.{ℕ, ◌≡◌, ◌++◌, ⊤, List, [], ◌∷◌, Bool, true, false, not, Option, Some, None, slice_get}
-use Rattle.std.specs.Prelude.{length, map, option_map, unwrap_or, if◌then◌else◌, is_some, slice_set, IsSome, nat_lt}
-use Rattle.std.specs.Prelude.{String, codes, fold}
+use Rattle.std.specs.Prelude.{ℕ, ◌≡◌, ◌+◌, ◌-◌, ◌++◌, ⊤, List, [], ◌∷◌, Bool, true, false, Option, Some, None, slice_get}
+use Rattle.std.specs.Prelude.{length, map, option_map, unwrap_or, if◌then◌else◌, is_some, slice_set, IsSome, nat_eq}
+use Rattle.std.specs.Prelude.{String, codes, fold, slice_index_or, take}
 use Rattle.std.specs.declared.alloc.Global.{Global}
 use Rattle.std.specs.List.{list_any, position_or_len}
 use Rattle.std.specs.Option.{option_map_or}
@@ -43,8 +43,10 @@ pub record Read : Type 0 where
   pub values : List (List ℕ)
   -- whether each value was put
   pub put : List Bool
-  -- which of the numbers by which a history knows clients are in use
-  pub held : List Bool
+  -- how many of the numbers by which a history knows clients were given since the last crash
+  pub numbers : ℕ
+  -- and those that are free again
+  pub free : List ℕ
   pub calls : List CallOf
   pub steps : List Step
 
@@ -74,25 +76,24 @@ with_put read (Some text) = record (with_value read text) {
   put = slice_set (with_value read text).put (number_in read.values text) true;
 }
 
--- the lowest number that is free
-abbrev pub free_number : List Bool → ℕ
-free_number held = position_or_len not held
+-- the next number that is given: the last one that is free again, or a new one
+abbrev pub next_number : Read → ℕ
+next_number read = slice_index_or read.free (length read.free - 1) read.numbers
 
--- which numbers are in use, with that one
-abbrev pub with_number : List Bool → List Bool
-with_number held =
-    if nat_lt (free_number held) (length held) then slice_set held (free_number held) true else held ++ true ∷ []
-
-abbrev pub with_held : Read → Read
-with_held read = record read { held = with_number read.held }
+-- it is given
+abbrev pub with_number : Read → Read
+with_number read = record read {
+  numbers = if nat_eq (length read.free) 0 then read.numbers + 1 else read.numbers;
+  free = take (length read.free - 1) read.free;
+}
 
 -- a call of the client begins: it puts this value, or takes
 abbrev pub with_call : Read → ℕ → Option (List ℕ) → Bool → At → Read
 with_call read client puts is_base at = with_step
-    (record (with_held (with_put read puts)) {
+    (record (with_number (with_put read puts)) {
       calls = read.calls ++ (record {
         client = client;
-        number = free_number read.held;
+        number = next_number read;
         puts = option_map (number_in read.values) puts;
         is_base = is_base;
       }) ∷ [];
@@ -123,7 +124,7 @@ with_got read puts answered = read
 -- the number of a call is free
 abbrev pub with_free : Read → Option CallOf → Read
 with_free read None = read
-with_free read (Some of) = record read { held = slice_set read.held of.number false }
+with_free read (Some of) = record read { free = read.free ++ of.number ∷ [] }
 
 -- the call was answered so, which frees its number
 abbrev pub with_said : Read → ℕ → Option Said → At → Read
@@ -151,7 +152,7 @@ crashed state = state
 
 abbrev pub with_crash : Read → At → Read
 with_crash read at =
-    with_step (record read { held = []; states = map crashed read.states }) Crash at
+    with_step (record read { numbers = 0; free = []; states = map crashed read.states }) Crash at
 
 -- what the client of this name is about
 abbrev pub state_of : Read → List ℕ → State

@@ -1,9 +1,11 @@
 //! What was recorded, one thing after another.
 
 ghost use Rattle.std.specs.Prelude.{◌≡◌};
+ghost use Rattle.findings.specs.Facts.{call_of as ranked_call, reply_of as ranked_reply};
+ghost use Rattle.findings.specs.Ranks.{ranked};
 ghost use Rattle.recording.specs.Recording.{message, reply_of, asked_by};
 
-use findings::ranked;
+use findings::{RankedCall, RankedReply, ranked};
 use indexmap::IndexSet;
 use words::{Call, Reply, Value};
 
@@ -44,7 +46,7 @@ pub struct Step {
 #[derive(Clone, Copy)]
 pub struct CallOf {
     pub client: usize,
-    pub number: u8,
+    pub number: u32,
     /// The number of the value, or nothing if it takes.
     pub puts: Option<usize>,
     /// The queue held the value at first.
@@ -64,11 +66,18 @@ pub struct Recording {
 }
 
 impl Recording {
+    /// The number of a value among those that are put.
+    fn rank(&self, value: usize) -> u32
+        ensures { ranked result ≡ message self.now value }
+    {
+        self.ranks.get(value).copied().unwrap_or(u32::MAX)
+    }
+
     /// The message that stands for a value: its number among those that are put.
     pub fn message(&self, value: usize) -> Value
         ensures { result ≡ message self.now value }
     {
-        ranked(self.ranks.get(value).copied().unwrap_or(u32::MAX))
+        ranked(self.rank(value))
     }
 
     /// The reply that was said.
@@ -89,6 +98,27 @@ impl Recording {
         match call.puts {
             Some(value) => Call::Enq(self.message(value)),
             None => Call::Deq,
+        }
+    }
+
+    /// The same, with the number of the value in place of the message.
+    pub fn ranked_reply(&self, said: Said) -> RankedReply
+        ensures { ranked_reply result ≡ reply_of self.now said }
+    {
+        match said {
+            Said::Done => RankedReply::Done,
+            Said::Got(value) => RankedReply::Got(self.rank(value)),
+            Said::Empty => RankedReply::Empty,
+        }
+    }
+
+    /// So it is of what a call asks for.
+    pub fn ranked_call(&self, call: CallOf) -> RankedCall
+        ensures { ranked_call result ≡ asked_by self.now call }
+    {
+        match call.puts {
+            Some(value) => RankedCall::Put(self.rank(value)),
+            None => RankedCall::Take,
         }
     }
 }

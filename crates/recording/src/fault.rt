@@ -9,7 +9,6 @@ pub enum Why {
     NoObject,
     NoLine,
     PutTwice(String),
-    TooManyCalls,
     NoCall(String),
     UnderWay(String),
     WrongAnswer(String),
@@ -25,7 +24,6 @@ impl fmt::Display for Why {
             Why::NoObject => write!(f, "this is no JSON object"),
             Why::NoLine => write!(f, "this is no line of a recording"),
             Why::PutTwice(value) => write!(f, "value {value} is put twice"),
-            Why::TooManyCalls => write!(f, "17 calls are open"),
             Why::NoCall(client) => write!(f, "client {client} has no call under way"),
             Why::UnderWay(client) => write!(f, "client {client} has a call under way"),
             Why::WrongAnswer(client) => {

@@ -1,11 +1,11 @@
 //! Puts together a recording, line by line.
 
-ghost use Rattle.std.specs.Prelude.{◌≡◌, ◌<◌, Some, codes, length, map, option_map, slice_get, unwrap_or};
+ghost use Rattle.std.specs.Prelude.{◌≡◌, Some, codes, length, map, option_map, slice_get, unwrap_or};
 ghost use Rattle.std.specs.Prelude.{IfOk, IsTrue, OnOk};
 ghost use Rattle.std.specs.String.{string_bytes};
 ghost use Rattle.recording.specs.Reading.{number_in, with_client, with_value, with_put, with_step, with_call};
-ghost use Rattle.recording.specs.Reading.{free_number, IsPutBefore, does_put, said_by, with_got, with_free};
-ghost use Rattle.recording.specs.Reading.{with_answer, MayAnswer, with_crash, crashed, with_state, with_held};
+ghost use Rattle.recording.specs.Reading.{next_number, IsPutBefore, does_put, said_by, with_got, with_free};
+ghost use Rattle.recording.specs.Reading.{with_answer, MayAnswer, with_crash, crashed, with_state, with_number};
 ghost use Rattle.recording.specs.Reading.{after_answer, IsBeginLine, IsAnswerLine, IsToldLine, IsLine};
 ghost use Rattle.recording.specs.Reading.{with_base_value, with_base, with_left_value, with_left, with_final};
 ghost use Rattle.recording.specs.Reader.{read_of, bytes_of, IsOfRead};
@@ -18,7 +18,6 @@ use crate::state::State;
 use crate::wording::shown;
 use indexmap::IndexSet;
 use std::alloc::{AllocError, Global};
-use words::MAX_CLIENTS;
 
 /// What a recording has come to. Clients and values have numbers, as they first come.
 #[derive(Drop)]
@@ -30,8 +29,9 @@ pub(crate) struct Reader {
     values: IndexSet<String>,
     /// Whether each value was put.
     put: Vec<bool>,
-    /// Which of the numbers by which a history knows clients are in use.
-    held: Vec<bool>,
+    /// How many numbers by which a history knows clients were given since the last crash, and those that are free again.
+    numbers: u32,
+    free: Vec<u32>,
     calls: Vec<CallOf>,
     steps: Vec<Step>,
     times: Vec<String>,
@@ -53,7 +53,8 @@ impl Reader {
             states: Vec::new(alloc),
             values: IndexSet::new(alloc),
             put: Vec::new(alloc),
-            held: Vec::new(alloc),
+            numbers: 0,
+            free: Vec::new(alloc),
             calls: Vec::new(alloc),
             steps: Vec::new(alloc),
             times: Vec::new(alloc),
@@ -147,29 +148,21 @@ impl Reader {
         }
     }
 
-    /// The lowest number that is free.
-    fn free_number(&self) -> usize
-        ensures { result ≡ free_number (read_of self.now).held }
+    /// A number for a client: the last one that is free again, or a new one.
+    fn give_number(&mut self) -> Result<u32, Fault>
+        ensures number { IfOk result (λ number. number ≡ next_number (read_of self.old)) }
+        ensures read { OnOk result (read_of self.new ≡ with_number (read_of self.old)) }
     {
-        for number in 0..self.held.len() {
-            if !self.held[number] {
-                return number;
-            }
+        if let Some(number) = self.free.pop() {
+            return Ok(number);
         }
-        self.held.len()
-    }
-
-    /// The lowest number that is free is in use from now on.
-    fn hold(&mut self, number: usize) -> Result<(), Fault>
-        requires { number ≡ free_number (read_of self.old).held }
-        ensures { OnOk result (read_of self.new ≡ with_held (read_of self.old)) }
-    {
-        if number < self.held.len() {
-            self.held[number] = true;
-        } else {
-            self.held.push(true)?;
-        }
-        Ok(())
+        let number = self.numbers;
+        let Some(numbers) = number.checked_add(1) else {
+            // There are more calls open than a number can count.
+            return Err(Fault::Memory);
+        };
+        self.numbers = numbers;
+        Ok(number)
     }
 
     /// A call of a client begins.
@@ -183,18 +176,13 @@ impl Reader {
         ensures number { IfOk result (λ call. call ≡ length (read_of self.old).calls) }
         ensures read { OnOk result (read_of self.new ≡ with_call (read_of self.old) client (bytes_of puts) is_base at) }
         ensures first { OnOk result (IsPutBefore (read_of self.old) (bytes_of puts) → ⊥) }
-        ensures room { OnOk result (free_number (read_of self.old).held < MAX_CLIENTS) }
     {
         let puts = self.put_any(puts, at)?;
-        let number = self.free_number();
-        if number >= MAX_CLIENTS {
-            return Err(Fault::Line(at.line, Why::TooManyCalls));
-        }
-        self.hold(number)?;
+        let number = self.give_number()?;
         let call = self.calls.len();
         self.calls.push(CallOf {
             client,
-            number: number as u8,
+            number,
             puts,
             is_base,
         })?;
@@ -229,16 +217,16 @@ impl Reader {
     }
 
     /// The number of a call is free again.
-    fn free(&mut self, call: usize)
-        ensures { read_of self.new ≡ with_free (read_of self.old) (slice_get (read_of self.old).calls call) }
+    fn free(&mut self, call: usize) -> Result<(), Fault>
+        ensures { OnOk result (read_of self.new
+            ≡ with_free (read_of self.old) (slice_get (read_of self.old).calls call)) }
     {
         let number = match self.calls.get(call) {
-            Some(of) => of.number as usize,
-            None => return,
+            Some(of) => of.number,
+            None => return Ok(()),
         };
-        if number < self.held.len() {
-            self.held[number] = false;
-        }
+        self.free.push(number)?;
+        Ok(())
     }
 
     /// The call is answered, refused or given up.
@@ -255,7 +243,7 @@ impl Reader {
         match answered {
             Answered::Unknown => self.add(Act::GiveUp(call), at),
             Answered::Refused => {
-                self.free(call);
+                self.free(call)?;
                 self.add(Act::Refuse(call), at)
             }
             answered => {
@@ -263,7 +251,7 @@ impl Reader {
                     let text = self.client_text(client)?;
                     return Err(Fault::Line(at.line, Why::WrongAnswer(text)));
                 };
-                self.free(call);
+                self.free(call)?;
                 self.add(Act::Answer(call, said), at)
             }
         }
@@ -273,7 +261,8 @@ impl Reader {
     pub(crate) fn crash(&mut self, at: At) -> Result<(), Fault>
         ensures { OnOk result (read_of self.new ≡ with_crash (read_of self.old) at) }
     {
-        self.held.clear();
+        self.numbers = 0;
+        self.free.clear();
         interrupt(&mut self.states);
         self.add(Act::Crash, at)
     }
@@ -292,6 +281,12 @@ impl Reader {
         if client < self.states.len() {
             self.states[client] = state;
         }
+    }
+
+    /// That the client has no call under way.
+    pub(crate) fn no_call(&self, client: usize, at: At) -> Result<Fault, Fault> {
+        let text = self.client_text(client)?;
+        Ok(Fault::Line(at.line, Why::NoCall(text)))
     }
 
     /// A line with which a client calls.
@@ -315,8 +310,7 @@ impl Reader {
     {
         let client = self.client(client)?;
         let State::Calls(call) = self.state(client) else {
-            let text = self.client_text(client)?;
-            return Err(Fault::Line(at.line, Why::NoCall(text)));
+            return Err(self.no_call(client, at)?);
         };
         let state = after_answer(call, &answered);
         self.answer(client, call, answered, at)?;

@@ -31,6 +31,8 @@ struct Timed {
     puts: Option<String>,
     answered: Option<Answered>,
     call: usize,
+    /// How many crashes came before it began.
+    crashes: usize,
 }
 
 fn order(one: &Tick, other: &Tick) -> Ordering {
@@ -102,6 +104,7 @@ impl Clock {
             puts,
             answered: Some(answered),
             call: 0,
+            crashes: 0,
         })?;
         Ok(())
     }
@@ -118,6 +121,7 @@ impl Clock {
                     puts: None,
                     answered: None,
                     call: 0,
+                    crashes: 0,
                 })?;
                 Ok(())
             }
@@ -128,6 +132,7 @@ impl Clock {
     /// Gives everything to the reader, in order.
     pub(crate) fn play(mut self, reader: &mut Reader) -> Result<(), Fault> {
         self.ticks.sort_by(order)?;
+        let mut crashes = 0usize;
         for tick in &self.ticks {
             let Some(timed) = self.timed.get_mut(tick.call) else {
                 continue;
@@ -139,12 +144,19 @@ impl Clock {
             match tick.kind {
                 Kind::Begin => {
                     timed.call = reader.begin(timed.client, timed.puts.take(), false, at)?;
+                    timed.crashes = crashes;
+                }
+                Kind::End if timed.crashes != crashes => {
+                    return Err(reader.no_call(timed.client, at)?);
                 }
                 Kind::End => {
                     let answered = timed.answered.take().unwrap_or(Answered::Unknown);
                     reader.answer(timed.client, timed.call, answered, at)?;
                 }
-                Kind::Crash => reader.crash(at)?,
+                Kind::Crash => {
+                    reader.crash(at)?;
+                    crashes = crashes.wrapping_add(1);
+                }
             }
         }
         Ok(())

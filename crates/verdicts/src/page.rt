@@ -1,6 +1,7 @@
 //! The recording as a page: one HTML file with a picture, a lane for each client and a bar for each call.
 
-use answers::{Answer, Explanation};
+use answers::Answer;
+use events::Order;
 use findings::{Lack, Witness};
 use prefixes::{Prefix, prefix_of};
 use recording::{Act, Recording, Said, shown};
@@ -436,10 +437,10 @@ impl<'a> Page<'a> {
     }
 
     /// The moments at which the calls of an order take effect.
-    fn effects(&mut self, prefix: &Prefix, explanation: &Explanation) -> Result<(), AllocError> {
+    fn effects(&mut self, prefix: &Prefix, order: &Order) -> Result<(), AllocError> {
         let mut moment = 0usize;
         let mut count = 0usize;
-        for entry in explanation.order.entries.as_slice() {
+        for entry in order.entries.as_slice() {
             count = if entry.place > moment {
                 0
             } else {
@@ -487,9 +488,9 @@ impl<'a> Page<'a> {
     /// The picture, with what the answer says.
     fn judged(&mut self, answer: &Answer) -> Result<(), AllocError> {
         match answer {
-            Answer::Explained(prefix, explanation) => {
+            Answer::Explained(prefix, order) => {
                 self.picture()?;
-                self.effects(prefix, explanation)
+                self.effects(prefix, order)
             }
             Answer::Impossible(prefix, witness, before) => {
                 self.name_all(prefix, witness);

@@ -648,8 +648,8 @@ pub fn verdict(
     answer: &Answer,
 ) -> Result<String, AllocError> {
     match answer {
-        Answer::Explained(prefix, explanation) => {
-            let entries = explanation.order.entries.as_slice();
+        Answer::Explained(prefix, order) => {
+            let entries = order.entries.as_slice();
             explained(alloc, counts_of(recording, prefix, entries))
         }
         Answer::Impossible(prefix, witness, _) => impossible(alloc, recording, prefix, witness),
@@ -666,11 +666,11 @@ pub fn print_order(
     recording: &Recording,
     answer: &Answer,
 ) -> Result<String, AllocError> {
-    let Answer::Explained(prefix, explanation) = answer else {
+    let Answer::Explained(prefix, order) = answer else {
         return Ok(String::new(alloc));
     };
     let mut pen = Pen::new(alloc, recording, prefix)?;
-    for entry in explanation.order.entries.as_slice() {
+    for entry in order.entries.as_slice() {
         pen.entry(*entry);
     }
     pen.written()

@@ -8,5 +8,5 @@ loop-k-preserved c = below_more _ _ c.loop-k.invariant (c.did_not_put.ensures c.
 
 pub returns : goal.returns
 returns c = λ yes p puts.
-    let lt : p < length c.args.events.now.items = within_events c.args.events.now.items p (Enq c.args.value.now) puts in
+    let lt : p < length c.args.findings.now.events = within_events c.args.findings.now.events p (Enq c.args.value.now) puts in
     c.loop-k.invariant p (omega arith) puts

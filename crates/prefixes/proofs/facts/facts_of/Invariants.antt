@@ -4,6 +4,6 @@ use Rattle.prefixes.proofs.facts.facts_of.Given as goal
 
 abbrev pub invariant-loop-i : goal.invariant-loop-i
 invariant-loop-i l = record {
-  events : l.facts.events.items ≡ events_up_to l.recording l.steps l.i;
-  learnt : l.facts.learnt.items ≡ learnt_up_to l.recording l.steps l.i;
+  events : l.facts.events ≡ events_up_to l.recording l.steps l.i;
+  learnt : l.facts.learnt ≡ learnt_up_to l.recording l.steps l.i;
 }

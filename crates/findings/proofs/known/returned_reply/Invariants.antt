@@ -1,7 +1,0 @@
-use Rattle.std.proofs.Common.{ℕ, ◌<◌}
-use Rattle.events.specs.History.{EndsAt}
-use Rattle.findings.proofs.known.returned_reply.Given as goal
-
--- no end of the call so far
-abbrev pub invariant-loop-k : goal.invariant-loop-k
-invariant-loop-k l = (j : ℕ) → l.p < j → j < l.k → EndsAt l.events.items l.client j → ⊥
