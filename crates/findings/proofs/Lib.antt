@@ -13,7 +13,6 @@ mod Meanings
 mod Explained
 mod Found
 mod Whole
-pub mod Untold
 mod Placing
 mod Ending
 mod Ended

@@ -9,12 +9,12 @@ use Rattle.events.specs.declared.event.Entry.{Entry}
 use Rattle.events.specs.History.{Precedes}
 use Rattle.findings.specs.declared.witness.Since.{Since}
 use Rattle.findings.specs.Findings.{IsKnown, IsKnownGot, IsOverBy, PutsAt, TakesAt, HasDistinctValues, ExplainsFindings}
-use Rattle.findings.specs.Filling.{IsRecorded}
+use Rattle.findings.specs.Filling.{IsRecordedOfAny}
 use Rattle.findings.specs.Shows.{ShowsInvented, ShowsTwice, IsLate, IsFew}
 
 -- a recording of a queue: values are put once, a put is answered Done, and a take never is
 pub record IsOfQueue (events : List Event) (learnt : List (Option Outcome)) : Type 0 where
-  pub recorded : IsRecorded events learnt
+  pub recorded : IsRecordedOfAny events learnt
   pub distinct : HasDistinctValues events
   pub puts : (p : ℕ) (value : Value) (reply : Reply) → PutsAt events p value → IsKnown events learnt p reply
       → reply ≡ Done
