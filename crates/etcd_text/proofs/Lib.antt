@@ -1,3 +1,4 @@
 mod Spelling
 mod Pieces
 mod Bodies
+pub mod Facts

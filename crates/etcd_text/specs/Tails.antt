@@ -26,6 +26,11 @@ pub record IsParted (bytes front rest : List ℕ) : Type 0 where
   pub whole : bytes ≡ front ++ 32 ∷ rest
   pub first : HasNoSpace front
 
+-- bytes are the text of this tail
+pub record IsTailOf (bytes : List ℕ) (tail : Tail) : Type 0 where
+  pub text : bytes ≡ spelled (said_by tail)
+  pub fits : Fits (said_by tail)
+
 -- no tail is spelled so
 abbrev pub IsNoTail : List ℕ → Type 0
 IsNoTail bytes = (said : Said) → Fits said → bytes ≢ spelled said

@@ -1,7 +1,8 @@
 //! What a tail says, and its text.
 
-ghost use Rattle.std.specs.Prelude.{◌≡◌, ◌++◌, ◌∷◌, ◌==◌, decimal, position, MatchOption, OnErr, OnOk};
-ghost use Rattle.etcd_text.specs.Tails.{Fits, HasNoSpace, IsNoNumber, IsNoTail, IsParted, said_by, spelled};
+ghost use Rattle.std.specs.Prelude.{◌≡◌, ◌<◌, ◌^◌, ◌++◌, ◌∷◌, ◌==◌, decimal, position, MatchOption, OnErr, OnOk};
+ghost use Rattle.etcd_text.specs.Tails.{Fits, HasNoSpace, IsNoNumber, IsNoTail, IsParted, IsTailOf};
+ghost use Rattle.etcd_text.specs.Tails.{said_by, spelled};
 
 use itoa::Buffer;
 use std::alloc::AllocError;
@@ -55,7 +56,7 @@ fn parted(bytes: &[u8]) -> Option<(&[u8], &[u8])>
 
 /// The number that is all of these bytes, if one is: in decimal, with no sign and no needless zero.
 fn number_in(digits: &[u8]) -> Option<u64>
-    ensures { MatchOption result (IsNoNumber digits.now) (λ n. digits.now ≡ decimal n) }
+    ensures { MatchOption result (IsNoNumber digits.now) (λ n. (digits.now ≡ decimal n) × (n < 2 ^ 64)) }
 {
     let Ok(text) = str::from_utf8(digits) else {
         return None;
@@ -74,7 +75,7 @@ fn number_in(digits: &[u8]) -> Option<u64>
 
 /// The tail that these bytes are, if they are one.
 pub fn tail_in(bytes: &[u8]) -> Option<Tail>
-    ensures { MatchOption result (IsNoTail bytes.now) (λ tail. bytes.now ≡ spelled (said_by tail)) }
+    ensures { MatchOption result (IsNoTail bytes.now) (IsTailOf bytes.now) }
 {
     let Some((first, rest)) = parted(bytes) else {
         return None;

@@ -27,7 +27,7 @@ fresh_text piece tail generation number bytes later =
     joined_same (λ n. bytes_of (with_piece generation number bytes piece tail.generation n)) (λ n. bytes_of (piece tail.generation n)) tail.count
     (λ n few. ap bytes_of (with_other generation number bytes piece tail.generation n (inl (λ same. absurd (omega (arith, later, same))))))
 
-drop_text : (piece : ℕ → ℕ → Option (List ℕ)) (tail : Tail) → text_by (from_generation tail.generation piece) (Some tail) ≡ text_by piece (Some tail)
+pub drop_text : (piece : ℕ → ℕ → Option (List ℕ)) (tail : Tail) → text_by (from_generation tail.generation piece) (Some tail) ≡ text_by piece (Some tail)
 drop_text piece tail =
     joined_same (λ n. bytes_of (from_generation tail.generation piece tail.generation n)) (λ n. bytes_of (piece tail.generation n)) tail.count
     (λ n few. ap bytes_of (from_it tail.generation piece tail.generation n (omega arith)))

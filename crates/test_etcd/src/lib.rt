@@ -2,4 +2,6 @@
 #![tactic(auto)]
 
 #[cfg(test)]
+mod story;
+#[cfg(test)]
 mod wire;

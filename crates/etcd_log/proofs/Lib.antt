@@ -1,0 +1,4 @@
+mod Twice
+mod Spelled
+mod Putting
+mod Takers
