@@ -1,7 +1,7 @@
 #!/usr/bin/env bash
 # What pqx check says of recordings: the rows of tests/check/rows, each NAME.in with what is wanted of it on standard
-# output (NAME.out) and on standard error (NAME.err); entries of orders; drawn recordings against brute force; devices that
-# fail; histories of Jepsen (tests/check/jepsen). It takes the program that the last `rt ci`, or `rt run` in crates/pqx,
+# output (NAME.out) and on standard error (NAME.err); entries of orders; drawn recordings, of one queue and of several,
+# against brute force; devices that fail, and memory; histories of Jepsen (tests/check/jepsen). It takes the program that the last `rt ci`, or `rt run` in crates/pqx,
 # left, or the one that PQX names.
 set -eu
 cd "$(dirname "$0")/.."
@@ -13,11 +13,8 @@ rows=tests/check/rows
 # The status that goes with what is wanted: NAME
 wanted_status() {
     [ ! -e "$rows/$1.err" ] || { echo 2; return; }
-    case $(head -c 9 "$rows/$1.out") in
-        explained) echo 0 ;;
-        impossibl) echo 1 ;;
-        *) echo 3 ;;
-    esac
+    if grep -qE '^(queue .*: )?impossible' "$rows/$1.out"; then echo 1; return; fi
+    if grep -qE '^(queue .*: )?unknown' "$rows/$1.out"; then echo 3; else echo 0; fi
 }
 
 for row in "$rows"/*.in; do
@@ -63,6 +60,18 @@ compare 'check to a full output' 1 "$status" /dev/null "$work/wanted"
 status=0
 PQX=$pqx python3 -B tests/check/drawn.py 4000 1 > "$work/out" 2>&1 || status=$?
 judge 'drawn recordings' "$([ "$status" -eq 0 ] || tail -n 3 "$work/out")"
+
+# Drawn recordings of several queues.
+status=0
+PQX=$pqx python3 -B tests/check/queues.py 1000 1 > "$work/out" 2>&1 || status=$?
+judge 'drawn recordings of several queues' "$([ "$status" -eq 0 ] || tail -n 3 "$work/out")"
+
+# A recording that does not fit into the memory.
+status=0
+printf 'pqx: 6 NoMemory\n' > "$work/wanted"
+python3 -B bench/client/recordings.py 200000 8 40 1 > "$work/recording"
+(ulimit -v 40000 && exec "$pqx" check) < "$work/recording" > "$work/out" 2> "$work/err" || status=$?
+compare 'check without memory' 1 "$status" /dev/null "$work/wanted"
 
 # The recorder of README: threads on a queue that is right.
 status=0

@@ -2,17 +2,19 @@
 
 use answers::{Answer, Watch, answer_of};
 use options::CheckOptions;
-use recording::{Fault, Recording, read};
-use std::alloc::AllocError;
+use rayon::prelude::*;
+use recording::{Fault, Recorded, Recording, read, shown};
+use std::alloc::{AllocError, Global};
 use std::io::{IsTerminal, Read, Write};
 use std::process::ExitCode;
+use std::thread::Threads;
 use std::time::{Clock, Duration};
 use std::{fs, io};
 use verdicts::{page_of, print_order, verdict};
 use words::Refusal;
 
 /// For so many milliseconds nothing is shown.
-const QUIET: u64 = 1_000;
+const QUIET: u64 = 2_000;
 
 /// A line on standard error, where that is a terminal.
 #[derive(Drop)]
@@ -77,25 +79,65 @@ fn print(rt: &HostRuntime, text: &str) -> Result<(), Refusal> {
     Ok(())
 }
 
-/// The status of an answer.
-fn status(answer: &Answer) -> ExitCode {
-    match answer {
-        Answer::Explained(..) => ExitCode::SUCCESS,
-        Answer::Impossible(..) => ExitCode::from(1),
-        Answer::Unknown => ExitCode::from(3),
+/// The status of some answers: 1 where one is that no order is left, else 3 where one is unknown.
+fn status(answers: &[Answer]) -> ExitCode {
+    let is_impossible = |answer: &Answer| -> bool { matches!(answer, Answer::Impossible(..)) };
+    let is_unknown = |answer: &Answer| -> bool { matches!(answer, Answer::Unknown) };
+    if answers.iter().any(is_impossible) {
+        return ExitCode::from(1);
     }
+    if answers.iter().any(is_unknown) {
+        return ExitCode::from(3);
+    }
+    ExitCode::SUCCESS
 }
 
-/// The same as text, with the entries of the order where they are asked for.
+/// The line with which there is no order any more, if there is one.
+fn bad_line(recorded: &Recorded, answer: &Answer) -> Option<u32> {
+    let Answer::Impossible(prefix, ..) = answer else {
+        return None;
+    };
+    let step = recorded
+        .recording
+        .steps
+        .get(prefix.count.saturating_sub(1))?;
+    Some(step.line)
+}
+
+/// The number of the queue whose first bad line comes first, or of the first queue.
+fn foremost(queues: &[Recorded], answers: &[Answer]) -> usize {
+    let mut first = 0usize;
+    let mut line = u32::MAX;
+    for (number, recorded) in queues.iter().enumerate() {
+        if let Some(bad) = answers
+            .get(number)
+            .and_then(|answer| bad_line(recorded, answer))
+        {
+            if bad < line {
+                first = number;
+                line = bad;
+            }
+        }
+    }
+    first
+}
+
+/// What is said of a queue, behind its name if it has one, with the entries of the order where they are asked for.
 fn text(
     rt: &HostRuntime,
-    recording: &Recording,
+    recorded: &Recorded,
     answer: &Answer,
     with_order: bool,
 ) -> Result<String, AllocError> {
-    let mut text = verdict(rt.alloc(), recording, answer)?;
+    let mut text = String::new(rt.alloc());
+    if let Some(name) = &recorded.queue {
+        text.push_str("queue ")?;
+        text.push_str(shown(rt.alloc(), name.as_str())?.as_str())?;
+        text.push_str(": ")?;
+    }
+    text.push_str(verdict(rt.alloc(), &recorded.recording, answer)?.as_str())?;
     if with_order {
-        let entries = print_order(rt.alloc(), recording, answer)?;
+        let entries = print_order(rt.alloc(), &recorded.recording, answer)?;
         text.push_str(entries.as_str())?;
     }
     Ok(text)
@@ -118,40 +160,99 @@ fn show(
     }
 }
 
-/// The answer to a recording. A terminal is told how far a long search is.
-fn found(rt: &HostRuntime, recording: &Recording) -> Result<Answer, AllocError> {
+/// The answer to the only recording. A terminal is told how far a long search is.
+fn found(rt: &HostRuntime, recorded: &Recorded) -> Result<Vec<Answer>, AllocError> {
     let mut searching = Searching::new(rt);
-    let answer = answer_of(rt.alloc(), recording, &mut searching);
+    let answer = answer_of(rt.alloc(), &recorded.recording, &mut searching);
     searching.clear();
-    answer
+    let mut answers = Vec::new(rt.alloc());
+    answers.push(answer?)?;
+    Ok(answers)
 }
 
-/// Says what the answer is, as text, and as a page if one is asked for.
-fn tell(
-    rt: &HostRuntime,
-    recording: &Recording,
-    answer: &Answer,
-    asked: CheckOptions<'_>,
-) -> Result<(), Refusal> {
-    let Ok(text) = text(rt, recording, answer, asked.order) else {
-        return Err(Refusal::NoMemory);
-    };
-    print(rt, text.as_str())?;
-    match asked.page {
-        Some(path) => show(rt, recording, answer, path),
-        None => Ok(()),
+/// Tells nobody.
+#[derive(Drop)]
+struct Silent;
+
+impl Watch for Silent {
+    fn look(&mut self, _steps: usize) {}
+}
+
+/// The answers to recordings, side by side.
+fn found_all<H: Threads + Sync>(
+    threads: &H,
+    alloc: Global,
+    queues: &[Recorded],
+) -> Result<Vec<Answer>, AllocError> {
+    let made: Result<Result<Vec<Answer>, AllocError>, _> = (0..queues.len())
+        .into_par_iter()
+        // A queue is much work: `rayon` would take a whole batch in one thread.
+        .with_min_len(1)
+        .map(|queue: usize| -> Result<Answer, AllocError> {
+            match queues.get(queue) {
+                Some(recorded) => answer_of(alloc, &recorded.recording, &mut Silent),
+                None => Ok(Answer::Unknown),
+            }
+        })
+        .collect(threads, alloc);
+    match made {
+        Ok(answers) => answers,
+        Err(_) => Err(AllocError),
     }
 }
 
-/// Answers for a recording, and says which status to end with.
-fn answered(
+/// Says what was found of a queue.
+fn tell(
     rt: &HostRuntime,
-    recording: &Recording,
+    queues: &[Recorded],
+    answers: &[Answer],
+    queue: usize,
+    with_order: bool,
+) -> Result<(), Refusal> {
+    let (Some(recorded), Some(answer)) = (queues.get(queue), answers.get(queue)) else {
+        return Ok(());
+    };
+    match text(rt, recorded, answer, with_order) {
+        Ok(text) => print(rt, text.as_str()),
+        Err(_) => Err(Refusal::NoMemory),
+    }
+}
+
+/// Says what was found of each queue, the one in front whose first bad line comes first; and shows that one on a page, if
+/// one is asked for.
+fn tell_all(
+    rt: &HostRuntime,
+    queues: &[Recorded],
+    answers: &[Answer],
+    asked: CheckOptions<'_>,
+) -> Result<(), Refusal> {
+    let first = foremost(queues, answers);
+    tell(rt, queues, answers, first, asked.order)?;
+    for queue in 0..queues.len() {
+        if queue != first {
+            tell(rt, queues, answers, queue, asked.order)?;
+        }
+    }
+    match (asked.page, queues.get(first), answers.get(first)) {
+        (Some(path), Some(recorded), Some(answer)) => show(rt, &recorded.recording, answer, path),
+        _ => Ok(()),
+    }
+}
+
+/// Answers for the recordings of queues, and says which status to end with.
+fn answered<H: Threads + Sync>(
+    threads: &H,
+    rt: &HostRuntime,
+    queues: &[Recorded],
     asked: CheckOptions<'_>,
 ) -> Result<ExitCode, Refusal> {
-    match found(rt, recording) {
-        Ok(answer) => match tell(rt, recording, &answer, asked) {
-            Ok(()) => Ok(status(&answer)),
+    let found = match queues {
+        [recorded] => found(rt, recorded),
+        _ => found_all(threads, rt.alloc(), queues),
+    };
+    match found {
+        Ok(answers) => match tell_all(rt, queues, &answers, asked) {
+            Ok(()) => Ok(status(&answers)),
             Err(refusal) => Err(refusal),
         },
         Err(_) => Err(Refusal::NoMemory),
@@ -159,10 +260,17 @@ fn answered(
 }
 
 /// The verdict on the recording that standard input has, and the status to end with: 2 where a line is refused.
-pub(crate) fn check(rt: &HostRuntime, asked: CheckOptions<'_>) -> Result<ExitCode, Refusal> {
+pub(crate) fn check<H: Threads + Sync>(
+    threads: &H,
+    rt: &HostRuntime,
+    asked: CheckOptions<'_>,
+) -> Result<ExitCode, Refusal> {
     let bytes = input(rt)?;
-    match read(rt.alloc(), &bytes) {
-        Ok(recording) => answered(rt, &recording, asked),
+    let queues = read(rt.alloc(), &bytes);
+    // What was read is larger, and the search needs room.
+    drop(bytes);
+    match queues {
+        Ok(queues) => answered(threads, rt, &queues, asked),
         Err(Fault::Memory) => Err(Refusal::NoMemory),
         Err(fault) => {
             if eprintln!(rt; "{fault}").is_err() {

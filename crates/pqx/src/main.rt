@@ -156,7 +156,7 @@ fn answer<H: Threads + Sync>(
         PqxAsked::Points(points) => report(threads, rt, points),
         PqxAsked::BrokerRun => follow_broker(rt),
         PqxAsked::BrokerPoints(points) => report_on_broker(threads, rt, points),
-        PqxAsked::Check(asked) => return check(rt, asked),
+        PqxAsked::Check(asked) => return check(threads, rt, asked),
     };
     done.map(|()| ExitCode::SUCCESS)
 }

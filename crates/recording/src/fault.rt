@@ -16,6 +16,8 @@ pub enum Why {
     BaseNotFirst,
     AfterFinal,
     TimesAndNone,
+    QueueAndNone,
+    CrashOfOne,
 }
 
 impl fmt::Display for Why {
@@ -35,6 +37,8 @@ impl fmt::Display for Why {
             Why::BaseNotFirst => write!(f, "base stands on the first line, or nowhere"),
             Why::AfterFinal => write!(f, "final stands on the last line, or nowhere"),
             Why::TimesAndNone => write!(f, "lines with times stand beside lines without"),
+            Why::QueueAndNone => write!(f, "lines with a queue stand beside lines without"),
+            Why::CrashOfOne => write!(f, "a crash is of all queues"),
         }
     }
 }

@@ -5,6 +5,7 @@ mod act;
 mod fault;
 mod line;
 mod members;
+mod queues;
 mod reader;
 mod reading;
 mod state;
@@ -13,5 +14,5 @@ mod wording;
 
 pub use act::{Act, CallOf, Recording, Said, Step};
 pub use fault::{Fault, Why};
-pub use reading::read;
+pub use queues::{Recorded, read};
 pub use wording::shown;

@@ -406,7 +406,7 @@ impl Reader {
         }
         match line {
             Line::Base(values) => {
-                if self.steps.len() > 0 || at.line > 1 {
+                if self.steps.len() > 0 {
                     return Err(Fault::Line(at.line, Why::BaseNotFirst));
                 }
                 self.base_line(&values, at)

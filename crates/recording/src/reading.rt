@@ -1,4 +1,4 @@
-//! Reads the lines of a recording.
+//! Reads the lines of one queue.
 
 ghost use Rattle.std.specs.Prelude.{◌≡◌, IfOk, OnOk};
 ghost use Rattle.recording.specs.Lines.{SaysSo, TakesLine, AddsText, has_times, is_final};
@@ -53,19 +53,37 @@ fn is_base(line: &Line) -> bool {
     matches!(line, Line::Base(_))
 }
 
-/// What has been read: lines without times, lines with times, and the last line, if that says what was left.
+/// What has been read of one queue: lines without times, lines with times, and the last line, if that says what was left.
 #[derive(Drop)]
-struct Lines {
+pub(crate) struct Lines {
     reader: Reader,
     clock: Clock,
     is_plain: bool,
     left: Option<Line>,
     left_at: u32,
+    is_named: bool,
 }
 
 impl Lines {
+    /// None, of a queue that has a name, or of the only one.
+    pub(crate) fn new(alloc: Global, is_named: bool) -> Self {
+        Lines {
+            reader: Reader::new(alloc),
+            clock: Clock::new(alloc),
+            is_plain: false,
+            left: None,
+            left_at: 0,
+            is_named,
+        }
+    }
+
+    /// Whether the last line of the queue was there.
+    pub(crate) fn is_over(&self) -> bool {
+        self.left.is_some()
+    }
+
     /// Why a line may not stand here, if it may not.
-    fn misplaced(&self, said: &Line) -> Option<Why> {
+    fn misplaced(&self, said: &Line, number: u32) -> Option<Why> {
         if self.left.is_some() {
             return Some(Why::AfterFinal);
         }
@@ -74,14 +92,20 @@ impl Lines {
         } else {
             !is_final(said) && !self.clock.is_empty()
         };
-        if mixes { Some(Why::TimesAndNone) } else { None }
+        if mixes {
+            return Some(Why::TimesAndNone);
+        }
+        if is_base(said) && !self.is_named && number > 1 {
+            return Some(Why::BaseNotFirst);
+        }
+        None
     }
 
     /// Takes what the line of a number says.
     fn take(&mut self, said: Line, number: u32) -> Result<(), Fault>
         ensures { OnOk result (TakesLine self.old said number self.new) }
     {
-        if let Some(why) = self.misplaced(&said) {
+        if let Some(why) = self.misplaced(&said, number) {
             return Err(Fault::Line(number, why));
         }
         if has_times(&said) {
@@ -103,7 +127,7 @@ impl Lines {
     }
 
     /// A line of this text. An empty one says nothing.
-    fn add(&mut self, alloc: Global, text: &[u8], number: u32) -> Result<(), Fault>
+    pub(crate) fn add(&mut self, alloc: Global, text: &[u8], number: u32) -> Result<(), Fault>
         ensures { OnOk result (AddsText self.old text.now number self.new) }
     {
         if text.is_empty() {
@@ -113,22 +137,14 @@ impl Lines {
         self.take(said, number)
     }
 
-    fn add_all(&mut self, alloc: Global, bytes: &[u8]) -> Result<(), Fault> {
-        let mut number = 0u32;
-        for text in bytes.split(|byte| *byte == b'\n') {
-            number = number.saturating_add(1);
-            self.add(alloc, text, number)?;
-        }
-        Ok(())
-    }
-
-    fn recording(self) -> Result<Recording, Fault> {
+    pub(crate) fn recording(self) -> Result<Recording, Fault> {
         let Lines {
             mut reader,
             clock,
             is_plain: _,
             left,
             left_at,
+            is_named: _,
         } = self;
         clock.play(&mut reader)?;
         if let Some(left) = left {
@@ -142,17 +158,4 @@ impl Lines {
         }
         reader.recording()
     }
-}
-
-/// The recording that some lines are. An empty line says nothing.
-pub fn read(alloc: Global, bytes: &[u8]) -> Result<Recording, Fault> {
-    let mut lines = Lines {
-        reader: Reader::new(alloc),
-        clock: Clock::new(alloc),
-        is_plain: false,
-        left: None,
-        left_at: 0,
-    };
-    lines.add_all(alloc, bytes)?;
-    lines.recording()
 }
