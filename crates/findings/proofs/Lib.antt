@@ -1,3 +1,4 @@
+pub mod Facts
 mod Turns
 mod Patterns
 mod Pigeons

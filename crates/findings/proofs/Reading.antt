@@ -134,6 +134,7 @@ pub record PlaceEnd (events : List Event) (p : ℕ) : Type 0 where
   pub within : at ≤ length events
   pub how : (client : Client) → BeginsAt events client p → IsEnd events client p at
       ⊎ ((at ≡ length events) × ((k : ℕ) → p < k → EndsAt events client k → ⊥))
+  pub none : call_at events p ≡ None → at ≡ length events
 
 pub place_end : (events : List Event) (p : ℕ) → PlaceEnd events p
 place_end events p = go (call_here_or events p)
@@ -151,6 +152,7 @@ place_end events p = go (call_here_or events p)
               same_client events p here.client client (here.number, (here.call, here.at)) begins in
               subst (λ (c : Client). IsEnd events c p is.at
               ⊎ ((is.at ≡ length events) × ((k : ℕ) → p < k → EndsAt events c k → ⊥))) same is.how;
+          none = λ fail. absurd (let both : Some here.call ≡ None = sym (ap call_of here.at) ∙ fail in cc (both));
         }
     go (inr fail) = record {
       at = length events;
@@ -159,6 +161,7 @@ place_end events p = go (call_here_or events p)
       how = λ client begins. absurd (let is : (call : Call) × (call_at events p ≡ Some call) =
           call_begins events p client begins in
           let both : Some is.0 ≡ None = sym is.1 ∙ fail in cc (both));
+      none = λ fail_too. refl;
     }
 
 abbrev pub end_at : List Event → ℕ → ℕ
@@ -183,6 +186,17 @@ end_is events client p e begins ends = go ((place_end events p).how client begin
         → end_at events p ≡ e
     go (inl is) = one_end events client p (end_at events p) e is ends
     go (inr fail) = absurd (fail.1 e ends.after ends.ends)
+
+-- a call without one ends behind all
+pub end_none : (events : List Event) (client : Client) (p : ℕ) → BeginsAt events client p
+    → ((k : ℕ) → p < k → k < length events → EndsAt events client k → ⊥) → length events ≡ end_at events p
+end_none events client p begins fail = go ((place_end events p).how client begins)
+  where
+    go : IsEnd events client p (end_at events p)
+        ⊎ ((end_at events p ≡ length events) × ((k : ℕ) → p < k → EndsAt events client k → ⊥))
+        → length events ≡ end_at events p
+    go (inl is) = absurd (fail (end_at events p) is.after (ends_within events client (end_at events p) is.ends) is.ends)
+    go (inr none) = sym none.0
 
 pub is_end : (events : List Event) (client : Client) (p : ℕ) → BeginsAt events client p
     → end_at events p < length events → IsEnd events client p (end_at events p)

@@ -31,6 +31,23 @@ pub record IsClear (calls : Calls) (place : ℕ) : Type 0 where
   pub not_covered : (u : ℕ) → IsOut calls u → calls.end u ≤ place → place < take_of calls u → ⊥
   pub not_crowded : (a : ℕ) → IsCrowded calls.places (missing calls) (low calls) calls.end (begun_by calls) a place → ⊥
 
+-- why it was not: such a value, or too many missing ones
+pub data NotClear (calls : Calls) (place : ℕ) : Type 0 where
+  covered_by : (u : ℕ) → IsOut calls u → calls.end u ≤ place → place < take_of calls u → NotClear calls place
+  crowded_from : (a : ℕ) → IsCrowded calls.places (missing calls) (low calls) calls.end (begun_by calls) a place
+      → NotClear calls place
+
+pub not_both_clear : (calls : Calls) (place : ℕ) → NotClear calls place → IsClear calls place → ⊥
+not_both_clear calls place (covered_by u out ended later) clear = clear.not_covered u out ended later
+not_both_clear calls place (crowded_from a full) clear = clear.not_crowded a full
+
+-- a take that found nothing while the queue was nowhere clear
+pub record IsStuck (calls : Calls) : Type 0 where
+  pub take : ℕ
+  pub within : take < calls.places
+  pub empty : calls.known take ≡ found_nothing
+  pub none : (place : ℕ) → take ≤ place → place < calls.end take → NotClear calls place
+
 -- a clear place for each of the takes before n that found nothing
 pub record Moments (calls : Calls) (n : ℕ) : Type 0 where
   pub moment : ℕ → ℕ
@@ -44,30 +61,30 @@ module _ (calls : Calls) (are : AreCalls calls) where
   abbrev NotCovered : ℕ → ℕ → Type 0
   NotCovered place u = IsOut calls u → calls.end u ≤ place → place < take_of calls u → ⊥
 
-  covered_or : (place u : ℕ) → NotCovered place u ⊎ IsHeld calls place
+  covered_or : (place u : ℕ) → NotCovered place u ⊎ NotClear calls place
   covered_or place u = go (cases_lt (take_of calls u) calls.places) (cases_lt place (calls.end u))
       (cases_lt place (take_of calls u))
     where
       go : (take_of calls u < calls.places) ⊎ (calls.places ≤ take_of calls u)
           → (place < calls.end u) ⊎ (calls.end u ≤ place)
-          → (place < take_of calls u) ⊎ (take_of calls u ≤ place) → NotCovered place u ⊎ IsHeld calls place
+          → (place < take_of calls u) ⊎ (take_of calls u ≤ place) → NotCovered place u ⊎ NotClear calls place
       go (inr fail) side later = inl (λ out ended before. omega (arith, out.within, fail))
       go (inl out) (inl going) later = inl (λ is ended before. omega (arith, ended, going))
       go (inl out) (inr ended) (inr fail) = inl (λ is over before. omega (arith, before, fail))
       go (inl out) (inr ended) (inl later) =
-          inr (covered_held calls are u place (out_if_below calls u out) ended later)
+          inr (covered_by u (out_if_below calls u out) ended later)
 
   abbrev NotCrowded : ℕ → ℕ → Type 0
   NotCrowded place a = IsCrowded calls.places (missing calls) (low calls) calls.end (begun_by calls) a place → ⊥
 
-  crowded_or : (place a : ℕ) → NotCrowded place a ⊎ IsHeld calls place
+  crowded_or : (place a : ℕ) → NotCrowded place a ⊎ NotClear calls place
   crowded_or place a =
       go (cases_lt (begun_by calls place - a) (how_many (crowds (missing calls) (low calls) calls.end a place) calls.places))
     where
       go : (begun_by calls place - a < how_many (crowds (missing calls) (low calls) calls.end a place) calls.places)
           ⊎ (how_many (crowds (missing calls) (low calls) calls.end a place) calls.places ≤ begun_by calls place - a)
-          → NotCrowded place a ⊎ IsHeld calls place
-      go (inl full) = inr (crowded_held calls are a place full)
+          → NotCrowded place a ⊎ NotClear calls place
+      go (inl full) = inr (crowded_from a full)
       go (inr fail) = inl (λ full. omega (arith, full, fail))
 
   -- no value has its low take behind all takes
@@ -84,8 +101,8 @@ module _ (calls : Calls) (are : AreCalls calls) where
       }) in
       omega (arith, zero_count, full)
 
-  clear_or_held : (place : ℕ) → IsClear calls place ⊎ IsHeld calls place
-  clear_or_held place = go
+  pub clear_or_not : (place : ℕ) → IsClear calls place ⊎ NotClear calls place
+  clear_or_not place = go
       (all_or {P = NotCovered place} calls.places (λ u lt. covered_or place u))
       (all_or {P = NotCrowded place} (suc (open_count calls)) (λ a lt. crowded_or place a))
     where
@@ -94,9 +111,9 @@ module _ (calls : Calls) (are : AreCalls calls) where
       any_start each a (inl less) = each a less
       any_start each a (inr more) = high_start place a more
 
-      go : ((u : ℕ) → u < calls.places → NotCovered place u) ⊎ IsHeld calls place
-          → ((a : ℕ) → a < suc (open_count calls) → NotCrowded place a) ⊎ IsHeld calls place
-          → IsClear calls place ⊎ IsHeld calls place
+      go : ((u : ℕ) → u < calls.places → NotCovered place u) ⊎ NotClear calls place
+          → ((a : ℕ) → a < suc (open_count calls) → NotCrowded place a) ⊎ NotClear calls place
+          → IsClear calls place ⊎ NotClear calls place
       go (inr held) other = inr held
       go (inl uncovered) (inr held) = inr held
       go (inl uncovered) (inl uncrowded) = inl (record {
@@ -105,25 +122,29 @@ module _ (calls : Calls) (are : AreCalls calls) where
         not_crowded = λ a. any_start uncrowded a (cases_lt a (suc (open_count calls)));
       })
 
+  pub held_of : (place : ℕ) → NotClear calls place → IsHeld calls place
+  held_of place (covered_by u out ended later) = covered_held calls are u place out ended later
+  held_of place (crowded_from a full) = crowded_held calls are a place full
+
   record HasClear (from c : ℕ) : Type 0 where
     at : ℕ
     since : from ≤ at
     before : at < from + c
     clear : IsClear calls at
 
-  clear_within : (from c : ℕ) → HasClear from c ⊎ ((x : ℕ) → from ≤ x → x < from + c → IsHeld calls x)
+  clear_within : (from c : ℕ) → HasClear from c ⊎ ((x : ℕ) → from ≤ x → x < from + c → NotClear calls x)
   clear_within from zero = inr (λ x le lt. absurd (omega (arith, le, lt)))
-  clear_within from (suc c) = go (clear_or_held from) (clear_within (suc from) c)
+  clear_within from (suc c) = go (clear_or_not from) (clear_within (suc from) c)
     where
-      at_or_behind : IsHeld calls from → ((x : ℕ) → suc from ≤ x → x < suc from + c → IsHeld calls x)
-          → (x : ℕ) → from ≤ x → x < from + suc c → (from < x) ⊎ (x ≤ from) → IsHeld calls x
+      at_or_behind : NotClear calls from → ((x : ℕ) → suc from ≤ x → x < suc from + c → NotClear calls x)
+          → (x : ℕ) → from ≤ x → x < from + suc c → (from < x) ⊎ (x ≤ from) → NotClear calls x
       at_or_behind here rest x le lt (inl less) = rest x less (omega (arith, lt))
       at_or_behind here rest x le lt (inr more) =
-          let same : from ≡ x = omega (arith, le, more) in subst (IsHeld calls) same here
+          let same : from ≡ x = omega (arith, le, more) in subst (NotClear calls) same here
 
-      go : IsClear calls from ⊎ IsHeld calls from
-          → HasClear (suc from) c ⊎ ((x : ℕ) → suc from ≤ x → x < suc from + c → IsHeld calls x)
-          → HasClear from (suc c) ⊎ ((x : ℕ) → from ≤ x → x < from + suc c → IsHeld calls x)
+      go : IsClear calls from ⊎ NotClear calls from
+          → HasClear (suc from) c ⊎ ((x : ℕ) → suc from ≤ x → x < suc from + c → NotClear calls x)
+          → HasClear from (suc c) ⊎ ((x : ℕ) → from ≤ x → x < from + suc c → NotClear calls x)
       go (inl clear) rest = inl (record { at = from; since = omega arith; before = omega arith; clear = clear })
       go (inr held) (inl later) = inl (record {
         at = later.at;
@@ -133,7 +154,7 @@ module _ (calls : Calls) (are : AreCalls calls) where
       })
       go (inr held) (inr rest) = inr (λ x le lt. at_or_behind held rest x le lt (cases_lt from x))
 
-  pub moments_or : (n : ℕ) → n ≤ calls.places → Moments calls n ⊎ Pattern calls
+  pub moments_or : (n : ℕ) → n ≤ calls.places → Moments calls n ⊎ IsStuck calls
   moments_or zero le = inl (record {
     moment = λ e. 0;
     list = [];
@@ -216,37 +237,46 @@ module _ (calls : Calls) (are : AreCalls calls) where
           clear t (inl same) = subst (IsClear calls) same found.clear
           clear t (inr later) = old.clear t later
 
-      go : Moments calls n ⊎ Pattern calls → (calls.known n ≡ found_nothing) ⊎ (calls.known n ≡ found_nothing → ⊥)
-          → HasClear n (calls.end n - n) ⊎ ((x : ℕ) → n ≤ x → x < n + (calls.end n - n) → IsHeld calls x)
-          → Moments calls (suc n) ⊎ Pattern calls
-      go (inr pattern) side clear = inr pattern
+      go : Moments calls n ⊎ IsStuck calls → (calls.known n ≡ found_nothing) ⊎ (calls.known n ≡ found_nothing → ⊥)
+          → HasClear n (calls.end n - n) ⊎ ((x : ℕ) → n ≤ x → x < n + (calls.end n - n) → NotClear calls x)
+          → Moments calls (suc n) ⊎ IsStuck calls
+      go (inr stuck) side clear = inr stuck
       go (inl old) (inr differ) clear = inl (skipped old differ)
       go (inl old) (inl is) (inl found) = inl (added old found)
-      go (inl old) (inl is) (inr held) = inr (not_empty n (record {
+      go (inl old) (inl is) (inr held) = inr (record {
+        take = n;
         within = le;
         empty = is;
-        held = λ place low_place high_place. held place low_place (omega (arith, high_place, after));
-      }))
+        none = λ place low_place high_place. held place low_place (omega (arith, high_place, after));
+      })
+
+  pub stuck_pattern : IsStuck calls → Pattern calls
+  stuck_pattern stuck = not_empty stuck.take (record {
+    within = stuck.within;
+    empty = stuck.empty;
+    held = λ place since before. held_of place (stuck.none place since before);
+  })
 
   -- with all those moments takes suffice for the missing values
   pub given_or : (n : ℕ) → (moments : Moments calls n)
       → ((give : ℕ → ℕ) × AreGiven calls.places (missing calls) (low calls)
       (high_at_all (high calls) calls.end (begun_by calls) moments.list) give)
-      ⊎ Pattern calls
+      ⊎ ((a : ℕ) × ((b : ℕ) × IsOverfull calls.places (missing calls) (low calls) (high calls) a b))
   given_or n moments = go (given_or_overfull calls.places (missing calls) (low calls)
       (high_at_all (high calls) calls.end (begun_by calls) moments.list))
     where
       one_crowded : (a b t : ℕ) → IsAmong t moments.list
           → IsOverfull calls.places (missing calls) (low calls) (high calls) a b
-          ⊎ IsCrowded calls.places (missing calls) (low calls) calls.end (begun_by calls) a t → Pattern calls
-      one_crowded a b t among (inl full) = short_pattern calls are a b full
+          ⊎ IsCrowded calls.places (missing calls) (low calls) calls.end (begun_by calls) a t
+          → IsOverfull calls.places (missing calls) (low calls) (high calls) a b
+      one_crowded a b t among (inl full) = full
       one_crowded a b t among (inr crowd) = absurd ((moments.clear t among).not_crowded a crowd)
 
       one_full : (a b : ℕ) → IsOverfull calls.places (missing calls) (low calls) (high calls) a b
           ⊎ ((t : ℕ) × (IsAmong t moments.list
           × IsOverfull calls.places (missing calls) (low calls) (high_at (high calls) calls.end (begun_by calls) t) a b))
-          → Pattern calls
-      one_full a b (inl full) = short_pattern calls are a b full
+          → IsOverfull calls.places (missing calls) (low calls) (high calls) a b
+      one_full a b (inl full) = full
       one_full a b (inr (t, (among, full))) = one_crowded a b t among
           (crowded calls.places (missing calls) (low calls) (high calls) calls.end (begun_by calls) t a b
           (ends_by_ins calls are) full)
@@ -257,8 +287,14 @@ module _ (calls : Calls) (are : AreCalls calls) where
           (high_at_all (high calls) calls.end (begun_by calls) moments.list) a b))
           → ((give : ℕ → ℕ) × AreGiven calls.places (missing calls) (low calls)
           (high_at_all (high calls) calls.end (begun_by calls) moments.list) give)
-          ⊎ Pattern calls
+          ⊎ ((a : ℕ) × ((b : ℕ) × IsOverfull calls.places (missing calls) (low calls) (high calls) a b))
       go (inl given) = inl given
-      go (inr (a, (b, full))) = inr (one_full a b
-          (independent calls.places (missing calls) (low calls) (high calls) calls.end (begun_by calls) moments.list a b
-          full))
+      go (inr (a, (b, full))) = inr (
+        a,
+        (
+          b,
+          one_full a b
+              (independent calls.places (missing calls) (low calls) (high calls) calls.end (begun_by calls) moments.list a b
+              full),
+        ),
+      )

@@ -76,6 +76,7 @@ pub record IsUntaken (calls : Calls) (v : ℕ) : Type 0 where
 pub record Taker (calls : Calls) (v : ℕ) : Type 0 where
   pub at : ℕ
   pub is : IsTakenBy calls v at ⊎ ((at ≡ calls.places) × IsUntaken calls v)
+  pub first : (s : ℕ) → s < at → calls.known s ≡ took v → ⊥
 
 pub taker : (calls : Calls) (v : ℕ) → Taker calls v
 taker calls v = go (search_least calls.places (λ t. is_took (calls.known t) v) (λ t. t))
@@ -84,10 +85,13 @@ taker calls v = go (search_least calls.places (λ t. is_took (calls.known t) v) 
     go (found_least t first) = record {
       at = t;
       is = inl (record { within = first.below; got = took_is (calls.known t) v first.passes });
+      first = λ s lt got. let le : t ≤ s =
+          first.least s (omega (arith, lt, first.below)) (took_from (calls.known s) v got) in omega (arith, le, lt);
     }
     go (found_none fail) = record {
       at = calls.places;
       is = inr (refl, record { none = λ t lt got. fail.none t lt (took_from (calls.known t) v got) });
+      first = λ s lt got. fail.none s lt (took_from (calls.known s) v got);
     }
 
 abbrev pub take_of : Calls → ℕ → ℕ

@@ -16,7 +16,10 @@ use Rattle.windows.proofs.Numbers.{nth_ascend}
 use Rattle.windows.proofs.Paired.{IsOut, take_of, out_if_below, ArePaired, paired_or}
 use Rattle.windows.proofs.Bounds.{is_done, open_count, begin_of, missing, missing_is, open_take, end_of}
 use Rattle.windows.proofs.Bounds.{open_at}
-use Rattle.windows.proofs.Empties.{Moments, moments_or, given_or, found_nothing_or}
+use Rattle.windows.specs.Takes.{IsOverfull}
+use Rattle.windows.proofs.Bounds.{low, high}
+use Rattle.windows.proofs.Short.{short_pattern}
+use Rattle.windows.proofs.Empties.{Moments, IsStuck, moments_or, given_or, stuck_pattern, found_nothing_or}
 use Rattle.windows.proofs.Fates.{IsGiving, Fate, is_out, is_given, stays, fate_takes, crossing, in_moment}
 
 abbrev is_found : Known → Bool
@@ -543,20 +546,26 @@ module _ (calls : Calls) (are : AreCalls calls) (paired : ArePaired calls) (mome
           subst (λ (s : ℕ). IsAmong (got s v) (steps_of passes.moves)) (is.taker ∙ same)
           (passes.gots v (to_pass_out v out) (full_out v out) is.until)
 
+-- steps that explain the calls, where nothing is wrong
+pub explained : (calls : Calls) → AreCalls calls → ArePaired calls → (moments : Moments calls calls.places)
+    → (give : ℕ → ℕ) → IsGiving calls moments give → (steps : List Step) × Explain calls steps
+explained calls are paired moments give given = (
+  steps_of (passes calls are paired moments give given).moves,
+  explain calls are paired moments give given,
+)
+
 pub order_or_pattern : (calls : Calls) → AreCalls calls → ((steps : List Step) × Explain calls steps) ⊎ Pattern calls
 order_or_pattern calls are = go (paired_or calls are) (moments_or calls are calls.places (omega arith))
   where
     with_moments : ArePaired calls → (moments : Moments calls calls.places)
-        → ((give : ℕ → ℕ) × IsGiving calls moments give) ⊎ Pattern calls
+        → ((give : ℕ → ℕ) × IsGiving calls moments give)
+        ⊎ ((a : ℕ) × ((b : ℕ) × IsOverfull calls.places (missing calls) (low calls) (high calls) a b))
         → ((steps : List Step) × Explain calls steps) ⊎ Pattern calls
-    with_moments paired moments (inl (give, given)) = inl (
-      steps_of (passes calls are paired moments give given).moves,
-      explain calls are paired moments give given,
-    )
-    with_moments paired moments (inr pattern) = inr pattern
+    with_moments paired moments (inl (give, given)) = inl (explained calls are paired moments give given)
+    with_moments paired moments (inr (a, (b, full))) = inr (short_pattern calls are a b full)
 
-    go : ArePaired calls ⊎ Pattern calls → Moments calls calls.places ⊎ Pattern calls
+    go : ArePaired calls ⊎ Pattern calls → Moments calls calls.places ⊎ IsStuck calls
         → ((steps : List Step) × Explain calls steps) ⊎ Pattern calls
     go (inr pattern) other = inr pattern
-    go (inl paired) (inr pattern) = inr pattern
+    go (inl paired) (inr stuck) = inr (stuck_pattern calls are stuck)
     go (inl paired) (inl moments) = with_moments paired moments (given_or calls are calls.places moments)

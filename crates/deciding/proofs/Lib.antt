@@ -1,0 +1,11 @@
+mod Taken
+mod Releases
+mod Limits
+mod Listing
+mod Wide
+mod Clear
+mod Decided
+mod Finishes
+mod Hearing
+mod Meant
+mod Joined

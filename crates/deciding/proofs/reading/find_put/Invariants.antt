@@ -1,0 +1,6 @@
+use Rattle.std.proofs.Common.{ℕ, ◌<◌}
+use Rattle.findings.specs.Findings.{PutsAt}
+use Rattle.deciding.proofs.reading.find_put.Given as goal
+
+abbrev pub invariant-loop-place : goal.invariant-loop-place
+invariant-loop-place l = (place : ℕ) → place < l.place → PutsAt l.events.items place l.value → ⊥

@@ -1,0 +1,7 @@
+pub mod Table
+pub mod Tables
+pub mod Right
+pub mod Covered
+pub mod Bad
+pub mod Heard
+pub mod AllMean
