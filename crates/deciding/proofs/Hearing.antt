@@ -13,7 +13,7 @@ use Rattle.events.specs.declared.event.Event.TheVariants.{Return as return_event
 use Rattle.events.specs.History.{BeginsAt, EndsAt, IsEnd, ReturnAt}
 use Rattle.events.specs.Replay.{call_at}
 use Rattle.findings.specs.Findings.{IsKnown, IsLearnt}
-use Rattle.findings.proofs.Facts.{NothingKnown, end_at, end_is, is_end, begins_call}
+use Rattle.findings.proofs.Offered.{NothingKnown, end_at, end_is, is_end, begins_call}
 
 begins_of : (events : List Event) (p : ℕ) (call : Option Call) → call_at events p ≡ call → IsSome call
     → (client : Client) × BeginsAt events client p

@@ -9,8 +9,8 @@ use Rattle.words.specs.declared.told.Outcome.{Outcome}
 use Rattle.events.specs.declared.event.Event.{Event}
 use Rattle.events.specs.Replay.{call_at}
 use Rattle.findings.specs.FourPatterns.{IsOfQueue, HasPattern, HasOrder}
-use Rattle.findings.proofs.Facts.{Means, means_none, HasMeaning, calls_of, are_calls, order, explains, pattern_is, end_at}
-use Rattle.findings.proofs.Facts.{place_end, pattern_refutes, within_events}
+use Rattle.findings.proofs.Offered.{Means, means_none, HasMeaning, calls_of, are_calls, order, explains, pattern_is, end_at}
+use Rattle.findings.proofs.Offered.{place_end, pattern_refutes, within_events}
 use Rattle.windows.specs.Runs.{Step}
 use Rattle.windows.specs.Calls.{Calls, AreCalls, Explain, Pattern}
 use Rattle.deciding.specs.declared.known.Knows.{Knows}

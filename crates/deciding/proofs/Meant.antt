@@ -8,7 +8,7 @@ use Rattle.words.specs.declared.told.Outcome.{Outcome}
 use Rattle.events.specs.declared.event.Event.{Event}
 use Rattle.findings.specs.Findings.{IsKnown, IsKnownGot, PutsAt, TakesAt}
 use Rattle.findings.specs.FourPatterns.{HasPattern, IsOfQueue, invented}
-use Rattle.findings.proofs.Facts.{within_events}
+use Rattle.findings.proofs.Offered.{within_events}
 
 pub no_such_put : (events : List Event) (learnt : List (Option Outcome)) (p : ℕ) (value : Value) (reply : Reply)
     → PutsAt events p value → IsKnown events learnt p reply → (reply ≡ Done → ⊥) → IsOfQueue events learnt

@@ -2,7 +2,7 @@
 use Rattle.std.specs.Prelude.{ℕ, ◌≡◌, ◌<◌, List, Option, length, slice_index_or}
 use Rattle.words.specs.declared.told.Outcome.{Outcome}
 use Rattle.events.specs.declared.event.Event.{Event}
-use Rattle.findings.proofs.Facts.{Means}
+use Rattle.findings.proofs.Offered.{Means}
 use Rattle.deciding.specs.declared.known.Knows.{Knows}
 use Rattle.deciding.specs.declared.known.Knows.TheVariants.{NoCall}
 use Rattle.deciding.specs.Table.{known_of}

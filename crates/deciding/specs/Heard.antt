@@ -4,7 +4,7 @@ use Rattle.words.specs.declared.told.Outcome.{Outcome}
 use Rattle.words.specs.declared.told.Outcome.TheVariants.{NotTaken}
 use Rattle.events.specs.declared.event.Event.{Event}
 use Rattle.findings.specs.Findings.{IsKnown, IsLearnt}
-use Rattle.findings.proofs.Facts.{NothingKnown}
+use Rattle.findings.proofs.Offered.{NothingKnown}
 use Rattle.deciding.specs.declared.reading.Heard.{Heard}
 use Rattle.deciding.specs.declared.reading.Heard.TheVariants.{Replied, Refused, Nothing}
 

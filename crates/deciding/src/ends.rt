@@ -2,7 +2,7 @@
 
 ghost use Rattle.std.specs.Prelude.{◌≡◌, ◌+◌, ◌^◌, ◌<◌, ◌↔◌, length, IsTrue, IfOk};
 ghost use Rattle.events.specs.History.{BeginsAt, EndsAt};
-ghost use Rattle.findings.proofs.Facts.{end_at};
+ghost use Rattle.findings.proofs.Offered.{end_at};
 ghost use Rattle.deciding.specs.Tables.{HasEach};
 
 use events::{Event, Events};

@@ -5,7 +5,7 @@ ghost use Rattle.words.specs.declared.call.Reply.TheVariants.{Done, Empty, Got};
 ghost use Rattle.events.specs.Replay.{call_at};
 ghost use Rattle.findings.specs.Findings.{IsKnown, IsKnownGot, PutsAt, TakesAt};
 ghost use Rattle.findings.specs.FourPatterns.{HasPattern, IsOfQueue};
-ghost use Rattle.findings.proofs.Facts.{Means, end_at};
+ghost use Rattle.findings.proofs.Offered.{Means, end_at};
 ghost use Rattle.deciding.specs.AllMean.{AllMean};
 ghost use Rattle.deciding.specs.Heard.{IsHeard};
 ghost use Rattle.deciding.specs.Table.{known_of};

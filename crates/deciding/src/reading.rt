@@ -8,7 +8,7 @@ ghost use Rattle.words.specs.declared.told.Outcome.{Outcome};
 ghost use Rattle.events.specs.History.{ReturnAt};
 ghost use Rattle.events.specs.Replay.{call_at};
 ghost use Rattle.findings.specs.Findings.{IsLearnt, PutsAt};
-ghost use Rattle.findings.proofs.Facts.{end_at};
+ghost use Rattle.findings.proofs.Offered.{end_at};
 ghost use Rattle.deciding.specs.Heard.{IsHeard};
 
 use events::{Event, Events, is_same_value};

@@ -1,4 +1,4 @@
-pub mod Facts
+pub mod Offered
 mod Turns
 mod Patterns
 mod Pigeons

@@ -1,5 +1,5 @@
 use Rattle.std.proofs.Common.{◌∙◌, arith}
-use Rattle.findings.proofs.Facts.{end_none}
+use Rattle.findings.proofs.Offered.{end_none}
 use Rattle.deciding.proofs.Finishes.{end_found}
 use Rattle.deciding.proofs.ends.end_of_call.Goals as goal
 

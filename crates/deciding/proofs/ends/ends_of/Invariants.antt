@@ -1,5 +1,5 @@
 use Rattle.std.proofs.Common.{◌≡◌, ℕ, ◌<◌, length, get_or}
-use Rattle.findings.proofs.Facts.{end_at}
+use Rattle.findings.proofs.Offered.{end_at}
 use Rattle.deciding.proofs.ends.ends_of.Given as goal
 
 abbrev pub invariant-loop-place : goal.invariant-loop-place

@@ -1,7 +1,7 @@
 use Rattle.std.proofs.Common.{subst, ⊎_elim}
 use Rattle.std.proofs.lemmas.Bool.{iff_false}
 use Rattle.findings.specs.Findings.{IsKnown}
-use Rattle.findings.proofs.Facts.{means_nothing}
+use Rattle.findings.proofs.Offered.{means_nothing}
 use Rattle.deciding.proofs.Meant.{no_such_take}
 use Rattle.deciding.proofs.meaning.answered_knows.Goals as goal
 

@@ -1,4 +1,4 @@
-use Rattle.findings.proofs.Facts.{means_took}
+use Rattle.findings.proofs.Offered.{means_took}
 use Rattle.deciding.proofs.Meant.{nobody_put}
 use Rattle.deciding.proofs.meaning.got_knows.Goals as goal
 

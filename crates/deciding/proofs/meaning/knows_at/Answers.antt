@@ -1,5 +1,5 @@
 use Rattle.std.proofs.Common.{sym, ◌∙◌}
-use Rattle.findings.proofs.Facts.{means_none}
+use Rattle.findings.proofs.Offered.{means_none}
 use Rattle.deciding.proofs.meaning.knows_at.Goals as goal
 
 pub returns-in-None-clause-found : goal.returns-in-None-clause-found

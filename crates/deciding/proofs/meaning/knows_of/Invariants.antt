@@ -1,5 +1,5 @@
 use Rattle.std.proofs.Common.{ℕ, ◌≡◌, ◌<◌, length, get_or}
-use Rattle.findings.proofs.Facts.{Means}
+use Rattle.findings.proofs.Offered.{Means}
 use Rattle.deciding.specs.declared.known.Knows.TheVariants.{NoCall}
 use Rattle.deciding.specs.Table.{known_of}
 use Rattle.deciding.proofs.meaning.knows_of.Given as goal

@@ -1,5 +1,5 @@
 use Rattle.std.proofs.Common.{subst}
-use Rattle.findings.proofs.Facts.{means_not, means_open}
+use Rattle.findings.proofs.Offered.{means_not, means_open}
 use Rattle.deciding.specs.Heard.{IsHeard}
 use Rattle.deciding.proofs.meaning.put_knows.Goals as goal
 

@@ -1,7 +1,7 @@
 use Rattle.std.proofs.Common.{subst}
 use Rattle.std.proofs.lemmas.Bool.{iff_false}
 use Rattle.findings.specs.Findings.{IsKnown}
-use Rattle.findings.proofs.Facts.{means_done}
+use Rattle.findings.proofs.Offered.{means_done}
 use Rattle.deciding.proofs.Meant.{no_such_put}
 use Rattle.deciding.proofs.meaning.stored_knows.Goals as goal
 

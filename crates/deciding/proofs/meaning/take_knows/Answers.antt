@@ -1,5 +1,5 @@
 use Rattle.std.proofs.Common.{subst}
-use Rattle.findings.proofs.Facts.{means_take_not, means_take_open}
+use Rattle.findings.proofs.Offered.{means_take_not, means_take_open}
 use Rattle.deciding.specs.Heard.{IsHeard}
 use Rattle.deciding.proofs.meaning.take_knows.Goals as goal
 
