@@ -66,8 +66,8 @@ fn reason(answer: &Answer, owner: &[u8]) -> Undone {
     }
 }
 
-/// Sends a request of this owner's as it is, until an answer decides. `next` is the tail that it is to leave, if that is
-/// another one. No answer is ever taken for "it was not done".
+/// Sends a request of this owner's as it is, until an answer decides. `next` is the tail that it is to leave, if that
+/// is another one. No answer is ever taken for "it was not done".
 pub(crate) fn decide<X: Exchange>(
     exchange: &mut X,
     request: &Request,

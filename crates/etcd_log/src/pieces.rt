@@ -179,7 +179,8 @@ fn drop_older<X: Exchange>(exchange: &mut X, tail: &Tail)
     ask_once(exchange, &Request::DropOlder { tail: *tail });
 }
 
-/// Bytes take the place of the text, in a fresh generation, and the ones before go. It answers how many pieces they are.
+/// Bytes take the place of the text, in a fresh generation, and the ones before go. It answers how many pieces they
+/// are.
 pub(crate) fn put_in_place<X: Exchange>(
     exchange: &mut X,
     tail: &Tail,

@@ -232,8 +232,8 @@ fn set_tail(
 }
 
 impl PlainEngine {
-    /// One that holds nothing, draws this key each time, and does with each request what it is told; with those behind them
-    /// it does what it is asked.
+    /// One that holds nothing, draws this key each time, and does with each request what it is told; with those behind
+    /// them it does what it is asked.
     pub fn new(alloc: Global, key: [u8; KEY_BYTES], fates: Vec<Fate>, patience: usize) -> Self
         ensures tail { result.tail ≡ None }
         ensures changes { result.changes.items ≡ [] }

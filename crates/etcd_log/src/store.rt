@@ -14,8 +14,8 @@ use journal_file::{Storage, Unplaced};
 use std::alloc::Global;
 use std::marker::Model;
 
-/// A log in an engine, whose tail says that it is this owner's. A generation of pieces takes the place of the one in use
-/// once all of them were answered.
+/// A log in an engine, whose tail says that it is this owner's. A generation of pieces takes the place of the one in
+/// use once all of them were answered.
 ///
 /// Once it is not known what became of a request nothing is asked any more: it is gone, for good. Its text is read by
 /// who takes the log then.
@@ -74,8 +74,8 @@ impl<X: Exchange + Drop> EtcdStore<X> {
         }
     }
 
-    /// Takes the log in this engine for an owner whose name was drawn for this alone: from here on nobody who had it before
-    /// changes it. Nothing is appended before a journal takes the place.
+    /// Takes the log in this engine for an owner whose name was drawn for this alone: from here on nobody who had it
+    /// before changes it. Nothing is appended before a journal takes the place.
     pub fn take(exchange: X, owner: Vec<u8>) -> Result<Self, Undone>
         ensures { IfOk result (λ log. log.failed ≡ true) }
     {
@@ -87,8 +87,8 @@ impl<X: Exchange + Drop> EtcdStore<X> {
         Ok(EtcdStore::new(exchange, owner, generation, count))
     }
 
-    /// The text of the log. It is refused where a piece is not there (Missing), as where the log is another owner's by now,
-    /// where no answer comes (NoEngine, BadAnswer), and for want of memory (NoMemory). The log stays as it is.
+    /// The text of the log. It is refused where a piece is not there (Missing), as where the log is another owner's by
+    /// now, where no answer comes (NoEngine, BadAnswer), and for want of memory (NoMemory). The log stays as it is.
     pub fn read(&mut self, alloc: Global) -> Result<Vec<u8>, Undone>
         ensures read { IfOk result (λ text. IfSome self.new.text (λ known. known ≡ text.items)) }
         ensures text { self.new.text ≡ self.old.text }

@@ -60,8 +60,8 @@ fn take_from<'a, X: Exchange>(
     }
 }
 
-/// The log becomes this owner's, with all that it has. The name was drawn for this one taking. It answers the generation
-/// in use, and how many pieces that has.
+/// The log becomes this owner's, with all that it has. The name was drawn for this one taking. It answers the
+/// generation in use, and how many pieces that has.
 pub(crate) fn take<X: Exchange>(exchange: &mut X, owner: &[u8]) -> Result<(u64, u64), Undone>
     ensures { IfOk result (λ at. HasTail (X.engine exchange.new)
         (record { generation = at.0; count = at.1; owner = owner.now })) }

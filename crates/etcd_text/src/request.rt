@@ -6,8 +6,8 @@ ghost use Rattle.etcd_text.specs.Texts.{is_range, path_of};
 
 use crate::tail::Tail;
 
-/// What etcd is asked for. Each request but the last two names the tail that its sender knows, and is to do nothing where
-/// the tail is another one.
+/// What etcd is asked for. Each request but the last two names the tail that its sender knows, and is to do nothing
+/// where the tail is another one.
 #[derive(Clone, Copy)]
 pub enum Request<'a> {
     /// The log is to be this owner's, with all its pieces; or it is to begin, where there is no tail.

@@ -4,8 +4,8 @@ ghost use Rattle.std.specs.Prelude.{◌≡◌, ◌<◌, ◌+◌, ◌^◌, ◌++�
 ghost use Rattle.fenced.specs.Requests.{taken};
 ghost use Rattle.etcd_text.specs.Asked.{HasRoom, asked_by};
 ghost use Rattle.etcd_text.specs.Tails.{said_by, spelled};
-ghost use Rattle.etcd_text.specs.Texts.{absent_text, compare_text, compared_text, delete_text, equal_text, failure_text};
-ghost use Rattle.etcd_text.specs.Texts.{both_text, fresh_text, moving_text, next_text, older_text, piece_key, put_text};
+ghost use Rattle.etcd_text.specs.Texts.{absent_text, compare_text, compared_text, delete_text, equal_text};
+ghost use Rattle.etcd_text.specs.Texts.{both_text, failure_text, fresh_text, moving_text, next_text, older_text, piece_key, put_text};
 ghost use Rattle.etcd_text.specs.Texts.{quoted, range_text, tail_key, text_of};
 
 use crate::keys::{first_key, generation_key, piece_key, tail_key};

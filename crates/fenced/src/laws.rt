@@ -31,8 +31,9 @@ pub fn taken_is_final()
     ensures { InEachRun TakenIsFinal }
 {}
 
-/// All pieces of the text are there, and who takes the log reads the text that it had. That is the text of the last tail
-/// that the owner before knew, or this and the piece that was under way, or the fresh generation that was to come in use.
+/// All pieces of the text are there, and who takes the log reads the text that it had. That is the text of the last
+/// tail that the owner before knew, or this and the piece that was under way, or the fresh generation that was to come
+/// in use.
 pub fn taker_reads()
     ensures there { InEachRun AllPiecesAreThere }
     ensures reads { InEachRun ReadsText }
