@@ -1,4 +1,5 @@
 //! The decision.
+// A clause names the calls of the tables that it speaks of, so some are longer than 120 columns.
 
 ghost use Rattle.std.specs.Prelude.{◌≡◌, ◌↔◌, length, List, IfOk, IsTrue, IsFalse};
 ghost use Rattle.findings.specs.FourPatterns.{HasOrder, IsOfQueue};

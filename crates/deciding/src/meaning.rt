@@ -1,4 +1,5 @@
 //! What is known of calls, by their places.
+// A clause names the calls of the tables that it speaks of, so some are longer than 120 columns.
 
 ghost use Rattle.std.specs.Prelude.{◌≡◌, ◌↔◌, ◌⊎◌, length, Some, IfOk, IfSome, IfNone, IsTrue};
 ghost use Rattle.words.specs.declared.call.Reply.TheVariants.{Done, Empty, Got};

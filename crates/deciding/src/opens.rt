@@ -1,4 +1,5 @@
 //! The open takes, and which of them fit a value.
+// A clause names the calls of the tables that it speaks of, so some are longer than 120 columns.
 
 ghost use Rattle.std.specs.Prelude.{◌≡◌, ◌+◌, ◌-◌, ◌<◌, length, nat_le, nat_lt, if◌then◌else◌, slice_index_or, IfOk};
 ghost use Rattle.windows.specs.Calls.{AreCalls};

@@ -1,4 +1,5 @@
 //! Whether open takes suffice for the values that need one.
+// A clause names the calls of the tables that it speaks of, so some are longer than 120 columns.
 
 ghost use Rattle.std.specs.Prelude.{ℕ, ◌≡◌, ◌+◌, ◌<◌, ◌≤◌, ◌↔◌, length, IsTrue, IfSome, IfNone};
 ghost use Rattle.windows.specs.Counting.{how_many};
