@@ -1,4 +1,5 @@
 //! Serving one reader and one writer with a journal.
+// A clause that names the reader and the writer before and after may be longer than 120 columns.
 
 ghost use Rattle.std.specs.Prelude.{◌≡◌, ◌<◌, ◌⊎◌, IfOk, IfSome, Ok, OnErr};
 ghost use Rattle.session.specs.Sessions.{IsUncalled};
