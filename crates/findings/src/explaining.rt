@@ -1,4 +1,5 @@
 //! The judge of orders.
+// What is explained is the events and what was learnt of them, so a clause is longer than 120 columns.
 
 ghost use Rattle.std.specs.Prelude.{◌↔◌, IfOk, IsTrue};
 ghost use Rattle.findings.specs.Findings.{ExplainsFindings};

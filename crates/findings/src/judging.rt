@@ -1,4 +1,5 @@
 //! The judge of witnesses.
+// What is known is the events and what was learnt of them, so a clause is longer than 120 columns.
 
 ghost use Rattle.std.specs.Prelude.{◌<◌, ◌≤◌, ◌⊎◌, ℕ, length, IsTrue, All, Option};
 ghost use Rattle.events.specs.History.{Precedes};

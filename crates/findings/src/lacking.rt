@@ -1,4 +1,5 @@
 //! Whether takes lack: whether those that began before a bound cannot have taken all values of some puts.
+// What is known is the events and what was learnt of them, so a clause is longer than 120 columns.
 
 ghost use Rattle.std.specs.Prelude.{◌<◌, ◌↔◌, IsTrue, All, Any, Option};
 ghost use Rattle.words.specs.declared.call.Reply.TheVariants.{Got};

@@ -1,4 +1,6 @@
 //! Whether facts are those of a recording: whether each may stand where it stands.
+// How things stand is said of three fields, and what is recorded of events and of what was learnt: some clauses are
+// longer than 120 columns.
 
 ghost use Rattle.std.specs.Prelude.{ℕ, ◌≡◌, ◌+◌, ◌<◌, ◌↔◌, IfOk, IsTrue, length};
 ghost use Rattle.events.specs.History.{IsUnderWay};

@@ -1,4 +1,5 @@
 //! The replay of an order on a plain queue that is empty at first.
+// What is left is said of the events, of the queue before and of that after, so a clause is longer than 120 columns.
 
 ghost use Rattle.std.specs.Prelude.{◌≡◌, ◌↔◌, [], IfOk, IsTrue};
 ghost use Rattle.words.specs.PlainQueue.{reply_of, served};

@@ -1,4 +1,5 @@
 //! What the first steps of a recording come to: events, and what was learnt of the calls that these begin.
+// What a step adds is said of the events before and after, so a clause is longer than 120 columns.
 
 ghost use Rattle.std.specs.Prelude.{◌≡◌, ◌+◌, ◌++◌, ◌<◌, [], ◌∷◌, Some, false, length, take, IfOk, OnOk};
 ghost use Rattle.events.specs.declared.event.Event.{Event};
