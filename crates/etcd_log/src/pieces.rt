@@ -1,4 +1,5 @@
 //! Bytes are put into pieces: behind the log's text, or as a generation that takes its place.
+// A clause that speaks of an engine before and after may be longer than 120 columns.
 
 ghost use Rattle.std.specs.Prelude.{◌≡◌, ◌<◌, ◌+◌, ◌^◌, ◌++◌, List, ℕ, suc, IfOk, IfSome, OnErr, OnOk};
 ghost use Rattle.std.specs.Io.KnownBytes.{append_known};

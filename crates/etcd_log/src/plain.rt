@@ -1,4 +1,5 @@
 //! An engine in memory, which is known, and whose answers are lost where it is told to.
+// A clause that speaks of an engine before and after may be longer than 120 columns.
 
 ghost use Rattle.std.specs.Prelude.{◌≡◌, ◌<◌, ◌+◌, ◌^◌, [], ℕ, List, Option, Some, None, IfOk, OnErr, OnOk, option_map};
 ghost use Rattle.fenced.specs.Engine.{same_state, same_tail, with_piece};

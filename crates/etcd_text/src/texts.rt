@@ -1,4 +1,5 @@
 //! The text of a request.
+// A clause that writes a text out with all that it is made of may be longer than 120 columns.
 
 ghost use Rattle.std.specs.Prelude.{◌≡◌, ◌<◌, ◌+◌, ◌^◌, ◌++◌, string_bytes, IfOk, OnOk, Some, option_map};
 ghost use Rattle.fenced.specs.Requests.{taken};

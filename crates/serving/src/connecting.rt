@@ -1,4 +1,5 @@
 //! Serving one connection of a broker that connections share.
+// A clause that names the desk, the reader and the writer before and after may be longer than 120 columns.
 
 ghost use Rattle.std.specs.Prelude.{◌≡◌, ◌<◌, ◌↔◌, [], IfSome, IsErrOf, None, OnOk};
 ghost use Rattle.chronicle.specs.Chronicled.{entries};
