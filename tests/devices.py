@@ -7,6 +7,7 @@ limited BYTES COMMAND..  runs a command that is ended by the system where it wri
 full BYTES COMMAND..     runs a command whose files are full at so many bytes
 connections PORT         connections that are cut off in every way, beside one that is not; it ends with a stop
 descriptors PQD          a server that has descriptors for a few connections alone
+crowd PQD                a server of as many connections as it takes, and one more
 strays PQD               a server that was given no input and no standard error
 """
 
@@ -217,12 +218,50 @@ def descriptors(port):
 
 def with_few_descriptors(pqd):
     """It warns once when no more can be opened, and not at each of the hundred tries a second that fail then."""
-    few = lambda: resource.setrlimit(resource.RLIMIT_NOFILE, (9, 9))
+    few = lambda: resource.setrlimit(resource.RLIMIT_NOFILE, (25, 25))
     with tempfile.TemporaryFile() as warned:
         status = serving(pqd, few, descriptors, warned)
         warned.seek(0)
         print("few warnings:", warned.read().count(b"could not be taken") in range(1, 5))
     return status
+
+
+def admitted(port):
+    """A connection that is not told Full, nor anything else."""
+    for _ in range(200):
+        sock = connect(port, b"")
+        sock.settimeout(0.2)
+        try:
+            sock.recv(100)
+        except TimeoutError:
+            return sock
+    raise TimeoutError
+
+
+def crowd(port):
+    """As many connections as there may be, of which one speaks; and one more."""
+    silent = [socket.create_connection(("127.0.0.1", port)) for _ in range(1022)]
+    half = connect(port, LIST[:5])
+    speaks = connect(port, LIST)
+    print("silent ones keep nobody:", is_answered(speaks, 20))
+    half.sendall(LIST[5:])
+    print("half a line keeps nobody, and is served once it is whole:", is_answered(half, 20))
+    print("one too many:", read(connect(port, b""), 27).decode().strip())
+    silent.pop().close()
+    after = admitted(port)
+    after.sendall(LIST)
+    print("one has ended, and another one is served:", is_answered(after, 20))
+    speaks.sendall(b'{"op":"stop"}\n')
+    print("stop:", read(speaks, 21).decode().strip())
+    for sock in [*silent, half, speaks, after]:
+        sock.close()
+
+
+def with_a_crowd(pqd):
+    most = resource.getrlimit(resource.RLIMIT_NOFILE)[1]
+    many = lambda: resource.setrlimit(resource.RLIMIT_NOFILE, (min(most, 2048), most))
+    many()
+    return serving(pqd, many, crowd)
 
 
 def without_places():
@@ -249,6 +288,8 @@ def main(what, *words):
         return serving(words[0], without_places, strays)
     if what == "connections":
         return connections(int(words[0]))
+    if what == "crowd":
+        return with_a_crowd(words[0])
     if what == "descriptors":
         return with_few_descriptors(words[0])
     if what in ("limited", "full"):

@@ -213,6 +213,16 @@ stop: {"reply":"stopping"}
 few warnings: True
 END
 fails 'serve without descriptors' 0 '' python3 -B tests/devices.py descriptors "$pqd" > "$work/out"
+
+# As many connections as it takes, by its four workers: those that are silent cost none of them.
+cat > "$work/replies" << 'END'
+silent ones keep nobody: True
+half a line keeps nobody, and is served once it is whole: True
+one too many: {"error":31,"name":"Full"}
+one has ended, and another one is served: True
+stop: {"reply":"stopping"}
+END
+fails 'serve a crowd' 0 '' python3 -B tests/devices.py crowd "$pqd" > "$work/out"
 cat > "$work/replies" << 'END'
 the first one is answered: True
 ['{"queues":[]}', '{"reply":"stopping"}', '']

@@ -2,7 +2,7 @@
 
 | raised | when | what became of the call |
 |---|---|---|
-| `NoMemory`, `Busy`, `NotReady` | asked again, with rests, until the patience is over | it was not made |
+| `NoMemory`, `Busy`, `NotReady`, `Full` | asked again, with rests, until the patience is over | it was not made |
 | `NoRoom`, `NoClient`, `NoQueue`, `WrongKind`, `Gap`, `Old` | at once | it was not made |
 | `BadName`, `Exists`, `DirectoryFull`, `AlreadyReady` | at once, of a creation or an operator | it was not made |
 | `TooLong`, `BadJson`, `BadRequest`, and a name that is not known: `Refused` | at once | it was not made |
@@ -154,8 +154,14 @@ class BadRequest(Refused):
     number = 25
 
 
+class Full(Refused):
+    """The server has as many connections as it serves at once, and has closed this one."""
+
+    number = 31
+
+
 NAMED = {it.__name__: it for it in Refused.__subclasses__()}
-RETRIED = (NoMemory, Busy, NotReady)
+RETRIED = (NoMemory, Busy, NotReady, Full)
 
 
 def refusal(reply: dict[str, Any]) -> Refused | None:

@@ -20,22 +20,22 @@ use Rattle.workers.specs.declared.entry.Entry.{Entry}
 use Rattle.workers.proofs.Facts.{later_still}
 use Rattle.serving.specs.Image.{IsImageAfter, IsImageOf, IsOpenedOver}
 use Rattle.serving.specs.Journaled.{IsLeftSince}
-use Rattle.server.specs.Worked.{AreConnections, IsImageServed, IsLeftServed, IsMarked, IsSettled}
+use Rattle.server.specs.Worked.{AreTurns, IsImageServed, IsLeftServed, IsMarked, IsSettled}
 
 -- a worker's last mark, and its last token
 pub marked_at : (clients : ℕ) (first : Sessioned) (served : Chronicled (Request × Answer)) (marked : Option Sessioned)
-    → AreConnections served → IsServedAtMark clients first (entries served) marked
+    → AreTurns served → IsServedAtMark clients first (entries served) marked
     → IfSome marked (IsMarked clients first)
-marked_at clients first served None connections turn = tt
-marked_at clients first served (Some marked) connections turn =
-    record { served = served; connections = connections; turn = turn }
+marked_at clients first served None turns turn = tt
+marked_at clients first served (Some marked) turns turn =
+    record { served = served; turns = turns; turn = turn }
 
 pub settled_at : (clients : ℕ) (first : Sessioned) (served : Chronicled (Request × Answer)) (sure : Option Sessioned)
-    → AreConnections served → IfSome sure (IsServedInTurn clients first served.settled)
+    → AreTurns served → IfSome sure (IsServedInTurn clients first served.settled)
     → IfSome sure (IsSettled clients first)
-settled_at clients first served None connections turn = tt
-settled_at clients first served (Some sure) connections turn =
-    record { served = served; connections = connections; turn = turn }
+settled_at clients first served None turns turn = tt
+settled_at clients first served (Some sure) turns turn =
+    record { served = served; turns = turns; turn = turn }
 
 -- the image, where there was memory for that
 pub image_served : {S : Type 0} (list : S → List Entry) (seats : List S) (first last : Sessioned) (b : Brokered)

@@ -22,17 +22,18 @@ socket_reader = record { left = λ socket. None; failures = λ socket. 0 }
 abbrev pub socket_writer : Writer Unit
 socket_writer = record { written = λ socket. None; flushed = λ socket. None; failures = λ socket. 0 }
 
--- connections were served at one desk, one after another, and nothing before
-pub data AreConnections : Chronicled (Request × Answer) → Type 0 where
-  nothing : {served : Chronicled (Request × Answer)} (is : entries served ≡ []) → AreConnections served
-  one_more : {old new : Chronicled (Request × Answer)} (before : AreConnections old) (ended : Result Unit Failure)
-      (tells : TellsBy socket_reader socket_writer old new ended tt tt tt tt) → AreConnections new
+-- Connections had their turns at one desk, and nothing was served there before. A turn serves the lines that came in
+-- over one of them since its turn before.
+pub data AreTurns : Chronicled (Request × Answer) → Type 0 where
+  nothing : {served : Chronicled (Request × Answer)} (is : entries served ≡ []) → AreTurns served
+  one_more : {old new : Chronicled (Request × Answer)} (before : AreTurns old) (ended : Result Unit Failure)
+      (tells : TellsBy socket_reader socket_writer old new ended tt tt tt tt) → AreTurns new
 
--- A worker served connections so. What this gives of them was answered in turn, each request up to this session.
+-- A worker served turns so. What this gives of them was answered in turn, each request up to this session.
 pub record IsWorked (told : Chronicled (Request × Answer) → List (Request × Answer)) (clients : ℕ)
     (first marked : Sessioned) : Type 0 where
   pub served : Chronicled (Request × Answer)
-  pub connections : AreConnections served
+  pub turns : AreTurns served
   pub turn : IsServedInTurn clients first (told served) marked
 
 -- of all requests

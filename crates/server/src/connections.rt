@@ -1,29 +1,36 @@
-//! Worker threads, each of which serves one connection at a time.
+//! Workers, each at one desk, where its connections have their turns.
 
-ghost use Rattle.std.specs.Prelude.{IfSome};
+ghost use Rattle.std.specs.Prelude.{◌≡◌, IfSome};
 ghost use Rattle.server.specs.Worked.{IsMarked, IsSettled};
 
 use crate::stopping::Stopping;
-use crossbeam_channel::Receiver;
 use desk::BrokerDesk;
-use devices::{CountedReader, CountedWriter, MAX_FAILURES};
+use devices::MAX_FAILURES;
 use engine::Failure;
 use journal_file::Storage;
 use lasting::{Settling, SharedJournal};
 use log::{Log, warn};
 use seating::Seating;
 use serving::{LastingDesk, StoppingDesk};
+use sockets::{Incoming, Outgoing};
 use std::alloc::{AllocError, Global};
 use std::marker::Model;
-use std::net::TcpStream;
 use std::sync::Wait;
 use words::Refusal;
 use workers::{Assured, Marked, Naming, Shared};
 
-/// Who serves one connection after another, at one desk.
+/// Who serves connections in turns, at one desk.
 pub(crate) trait Worker {
-    /// Serves a connection to its end.
-    fn serve<R: Wait + Log>(self, rt: &R, alloc: Global, connection: &TcpStream) -> Self;
+    /// Serves what came in over a connection for now.
+    fn serve<R: Wait>(
+        self,
+        rt: &R,
+        alloc: Global,
+        reader: &mut Incoming<'_>,
+        writer: &mut Outgoing<'_>,
+    ) -> (Self, Result<(), Failure>)
+        requires reader { reader.old.failures ≡ 0 }
+        requires writer { writer.old.failures ≡ 0 };
 }
 
 /// Where workers find their desks.
@@ -35,15 +42,13 @@ pub(crate) trait Desks<W: Worker> {
     fn has_failed(&self) -> bool;
 }
 
-/// Says why a connection ended, where it was not at its end.
-fn ended<R: Log>(rt: &R, served: Result<(), Failure>) {
-    if let Err(failure) = served {
-        warn!(rt; "a connection ended: {failure}");
-    }
+/// Says why a connection ended before its end.
+pub(crate) fn ended<R: Log>(rt: &R, failure: Failure) {
+    warn!(rt; "a connection ended: {failure}");
 }
 
 /// Says that a connection is closed, since there was no memory for its desk.
-fn unserved<R: Log>(rt: &R) {
+pub(crate) fn unserved<R: Log>(rt: &R) {
     warn!(rt; "a connection is closed unserved: {}", Refusal::NoMemory);
 }
 
@@ -55,7 +60,7 @@ pub(crate) struct BrokerWorker<'a, J: Naming> {
 
 impl<'a, J: Naming> Model for BrokerWorker<'a, J> {
     ghost use Rattle.chronicle.specs.Chronicled.{Chronicled};
-    ghost use Rattle.server.specs.Worked.{AreConnections};
+    ghost use Rattle.server.specs.Worked.{AreTurns};
     ghost use Rattle.wire.specs.declared.answer.Answer.{Answer};
     ghost use Rattle.wire.specs.declared.request.Request.{Request};
 
@@ -63,7 +68,7 @@ impl<'a, J: Naming> Model for BrokerWorker<'a, J> {
 
     ghost view = { λ w. w.desk.desk.served };
 
-    ghost invariant = { λ w. AreConnections w.desk.desk.served };
+    ghost invariant = { λ w. AreTurns w.desk.desk.served };
 }
 
 impl<'a, J: Naming> BrokerWorker<'a, J> {
@@ -78,13 +83,16 @@ impl<'a, J: Naming> BrokerWorker<'a, J> {
 }
 
 impl<'a, J: Naming> Worker for BrokerWorker<'a, J> {
-    fn serve<R: Wait + Log>(self, rt: &R, alloc: Global, connection: &TcpStream) -> Self {
+    fn serve<R: Wait>(
+        self,
+        rt: &R,
+        alloc: Global,
+        reader: &mut Incoming<'_>,
+        writer: &mut Outgoing<'_>,
+    ) -> (Self, Result<(), Failure>) {
         let BrokerWorker { mut desk } = self;
-        let mut reader = CountedReader::new(connection);
-        let mut writer = CountedWriter::new(connection);
-        let served = serving::connection(rt, alloc, &mut desk, &mut reader, &mut writer);
-        ended(rt, served);
-        BrokerWorker { desk }
+        let served = serving::connection(rt, alloc, &mut desk, reader, writer);
+        (BrokerWorker { desk }, served)
     }
 }
 
@@ -117,7 +125,7 @@ pub(crate) struct LastingWorker<'a, J: Naming + Settling, S: Storage + Drop> {
 
 impl<'a, J: Naming + Settling, S: Storage + Drop> Model for LastingWorker<'a, J, S> {
     ghost use Rattle.chronicle.specs.Chronicled.{Chronicled};
-    ghost use Rattle.server.specs.Worked.{AreConnections};
+    ghost use Rattle.server.specs.Worked.{AreTurns};
     ghost use Rattle.wire.specs.declared.answer.Answer.{Answer};
     ghost use Rattle.wire.specs.declared.request.Request.{Request};
 
@@ -125,7 +133,7 @@ impl<'a, J: Naming + Settling, S: Storage + Drop> Model for LastingWorker<'a, J,
 
     ghost view = { λ w. w.desk.desk.desk.served };
 
-    ghost invariant = { λ w. AreConnections w.desk.desk.desk.served };
+    ghost invariant = { λ w. AreTurns w.desk.desk.desk.served };
 }
 
 impl<'a, J: Naming + Settling, S: Storage + Drop> LastingWorker<'a, J, S> {
@@ -140,16 +148,19 @@ impl<'a, J: Naming + Settling, S: Storage + Drop> LastingWorker<'a, J, S> {
 }
 
 impl<'a, J: Naming + Settling, S: Storage + Drop> Worker for LastingWorker<'a, J, S> {
-    fn serve<R: Wait + Log>(self, rt: &R, alloc: Global, connection: &TcpStream) -> Self {
+    fn serve<R: Wait>(
+        self,
+        rt: &R,
+        alloc: Global,
+        reader: &mut Incoming<'_>,
+        writer: &mut Outgoing<'_>,
+    ) -> (Self, Result<(), Failure>) {
         let LastingWorker { mut desk } = self;
         if desk.desk.unsettled >= MAX_FAILURES {
-            return LastingWorker { desk };
+            return (LastingWorker { desk }, Err(Failure::NotKept));
         }
-        let mut reader = CountedReader::new(connection);
-        let mut writer = CountedWriter::new(connection);
-        let served = serving::lasting_connection(rt, alloc, &mut desk, &mut reader, &mut writer);
-        ended(rt, served);
-        LastingWorker { desk }
+        let served = serving::lasting_connection(rt, alloc, &mut desk, reader, writer);
+        (LastingWorker { desk }, served)
     }
 }
 
@@ -177,63 +188,4 @@ impl<'a, J: Naming + Settling, S: Storage + Drop> Desks<LastingWorker<'a, J, S>>
     fn has_failed(&self) -> bool {
         self.journal.has_failed()
     }
-}
-
-/// What the workers share: their desks, the connections, and whether more are taken.
-#[derive(Drop)]
-pub(crate) struct Serving<'a, D> {
-    pub(crate) desks: &'a D,
-    pub(crate) connections: &'a Receiver<TcpStream>,
-    /// Once it is said, connections that are not served yet will not be.
-    pub(crate) stopping: &'a Stopping,
-}
-
-/// The worker, or a new one, serves a connection to its end, and closes it. Where there is no memory for a desk, it is
-/// closed unserved.
-fn serve_connection<W: Worker + Drop, D: Desks<W>, R: Wait + Log>(
-    rt: &R,
-    alloc: Global,
-    desks: &D,
-    worker: Option<W>,
-    connection: TcpStream,
-) -> Option<W> {
-    // Otherwise a reply would wait for the next one, to go out with it.
-    if connection.set_nodelay(true).is_err() {
-        warn!(rt; "a connection delays its replies");
-    }
-    let worker = match worker {
-        Some(worker) => Ok(worker),
-        None => desks.worker(rt, alloc),
-    };
-    match worker {
-        Ok(worker) => Some(worker.serve(rt, alloc, &connection)),
-        Err(_) => {
-            unserved(rt);
-            None
-        }
-    }
-}
-
-/// Serves one connection after another, until no more are taken. Those that come after an accepted stop are closed
-/// unserved, and so are those that come once what was done lasts no more. It answers the worker that served them, if any
-/// was served.
-pub(crate) fn serve_connections<W: Worker + Drop, D: Desks<W>, R: Wait + Log>(
-    rt: &R,
-    alloc: Global,
-    serving: &Serving<'_, D>,
-) -> Option<W> {
-    let mut worker = None;
-    for connection in serving.connections.iter(rt) {
-        if serving.stopping.is_said() {
-            continue;
-        }
-        worker = serve_connection(rt, alloc, serving.desks, worker, connection);
-        if serving.desks.has_failed() {
-            serving.stopping.say();
-        }
-        if serving.stopping.is_said() {
-            serving.stopping.tell(rt);
-        }
-    }
-    worker
 }

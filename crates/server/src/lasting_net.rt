@@ -7,7 +7,7 @@ ghost use Rattle.workers.specs.Opening.{IsNameOf};
 ghost use Rattle.serving.specs.Image.{IsOpenedOver};
 ghost use Rattle.server.specs.Worked.{IsLeftServed, IsSettled};
 
-use crate::connections::{Desks, InJournal, LastingWorker, Worker};
+use crate::connections::{InJournal, LastingWorker};
 use crate::lasting_broker::LastingBroker;
 use crate::listening::{Service, work};
 use crate::stopping::Stopping;
@@ -41,17 +41,18 @@ fn keep_beside<J: Naming + Settling, S: Storage + Drop, R: Wait + Clock>(
 
 /// Takes connections and serves them, as [`work`] does, and says when all have ended.
 fn work_to_end<
-    W: Worker + Send + Drop,
-    D: Desks<W> + Sync,
+    'a,
+    J: Naming + Settling + Send + Sync,
+    S: Storage + Drop + Send,
     R: Threads + Wait + Net + Clock + Log + Sync,
 >(
     rt: &R,
     alloc: Global,
-    desks: &D,
+    desks: &InJournal<'a, J, S>,
     stopping: &Stopping,
     workers: u32,
     listener: &TcpListener,
-) -> Result<Vec<Option<W>>, AllocError> {
+) -> Result<Vec<Option<LastingWorker<'a, J, S>>>, AllocError> {
     let worked = work(rt, alloc, desks, stopping, workers, listener);
     stopping.end();
     worked

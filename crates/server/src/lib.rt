@@ -4,11 +4,13 @@
 
 mod connections;
 mod ending;
+mod inbox;
 mod lasting_broker;
 mod lasting_net;
 mod lasting_pipe;
 mod laws;
 mod listening;
+mod rounds;
 mod stopping;
 
 pub use lasting_net::net_lasting;

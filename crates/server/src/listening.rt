@@ -6,18 +6,20 @@ ghost use Rattle.workers.specs.Opening.{IsNameOf};
 ghost use Rattle.serving.specs.Image.{IsBusyOrNoMemory, IsOpenedOver};
 ghost use Rattle.server.specs.Worked.{IsImageServed, IsMarked};
 
-use crate::connections::{BrokerWorker, Desks, InMemory, Serving, Worker, serve_connections};
+use crate::connections::{BrokerWorker, Desks, InMemory, Worker};
 use crate::ending::{image_left, shareable, shared_seats};
+use crate::inbox::{Inbox, Post};
+use crate::rounds::{Serving, serve_connections};
 use crate::stopping::Stopping;
-use crossbeam_channel::{Sender, bounded};
 use log::{Log, warn};
 use named::Broker;
 use seating::Seating;
 use std::alloc::{AllocError, Global};
+use std::io::{self, Write};
 use std::marker::Brand;
 use std::net::{Net, SocketAddr, TcpListener, TcpStream};
 use std::sync::Wait;
-use std::thread::{Threads, join, map_indices, sleep};
+use std::thread::{Threads, join, map_vec, sleep};
 use std::time::{Clock, Duration};
 use words::Refusal;
 use workers::{Marked, Naming, Opened, Shared};
@@ -29,6 +31,9 @@ const REST_MILLIS: u64 = 10;
 /// How long a connection that wakes this thread waits to be taken.
 const WAKE_SECONDS: u64 = 1;
 
+/// How many connections are open at most.
+const MAX_CONNECTIONS: usize = 1_024;
+
 /// How connections are served.
 #[derive(Clone, Copy)]
 pub struct Service {
@@ -38,12 +43,47 @@ pub struct Service {
     pub renew: bool,
 }
 
+/// What a connection is told that is one too many.
+const FULL: &[u8] = b"{\"error\":31,\"name\":\"Full\"}\n";
+
+/// Tells a connection that there are too many, and closes it.
+fn refuse<R: Log>(rt: &R, mut connection: TcpStream) {
+    if connection.write(FULL).is_err() {
+        warn!(rt; "a connection is closed unserved");
+    }
+}
+
+/// Hands a connection to the worker that has the fewest, or refuses it where as many are open as may be.
+fn hand_over<R: Wait + Log>(rt: &R, inboxes: &[Inbox], most: usize, connection: TcpStream) {
+    let mut open: usize = 0;
+    let mut least = None;
+    for inbox in inboxes {
+        let count = inbox.count();
+        open = open.saturating_add(count);
+        least = match least {
+            Some((few, other)) if few <= count => Some((few, other)),
+            _ => Some((count, inbox)),
+        };
+    }
+    // Otherwise a reply would wait for the next one, to go out with it.
+    if connection.set_nodelay(true).is_err() {
+        warn!(rt; "a connection delays its replies");
+    }
+    match least {
+        Some((_, inbox)) if open < most && connection.set_nonblocking(true).is_ok() => inbox.give(
+            rt, connection,
+        ),
+        _ => refuse(rt, connection),
+    }
+}
+
 /// Takes connections and hands them to the workers, until no more are to be taken.
 fn accept<R: Wait + Clock + Log>(
     rt: &R,
     listener: &TcpListener,
     stopping: &Stopping,
-    connections: Sender<TcpStream>,
+    inboxes: &[Inbox],
+    most: usize,
 ) {
     let mut failing = false;
     for connection in listener.incoming() {
@@ -53,9 +93,7 @@ fn accept<R: Wait + Clock + Log>(
         match connection {
             Ok(connection) => {
                 failing = false;
-                if connections.send(rt, connection).is_err() {
-                    warn!(rt; "a connection is not served");
-                }
+                hand_over(rt, inboxes, most, connection);
             }
             Err(error) => {
                 // Told each time, it would fill a disk with lines as long as nothing can be taken.
@@ -66,6 +104,21 @@ fn accept<R: Wait + Clock + Log>(
                 sleep(rt, Duration::from_millis(REST_MILLIS));
             }
         }
+    }
+}
+
+/// The same, and says at the end that no more are taken.
+fn accept_to_end<R: Wait + Clock + Log>(
+    rt: &R,
+    listener: &TcpListener,
+    stopping: &Stopping,
+    inboxes: &[Inbox],
+    most: usize,
+) {
+    accept(rt, listener, stopping, inboxes, most);
+    stopping.close();
+    for inbox in inboxes {
+        inbox.wake(rt);
     }
 }
 
@@ -85,19 +138,18 @@ fn wake_at_stop<R: Wait + Net + Log>(rt: &R, stopping: &Stopping, address: Optio
     }
 }
 
-/// So many workers serve the connections that are taken, until no more are; those that served any are answered. At an
-/// `Err` there was no memory for their threads.
-fn serve_all<W: Worker + Send + Drop, D: Desks<W> + Sync, R: Threads + Wait + Log + Sync>(
+/// The workers serve the connections that are taken, until no more are; those that served any are answered. At an `Err`
+/// there was no memory for their threads.
+fn serve_all<W: Worker + Send + Drop, D: Desks<W> + Sync, R: Threads + Wait + Clock + Log + Sync>(
     rt: &R,
     alloc: Global,
     serving: &Serving<'_, D>,
-    workers: u32,
+    posts: Vec<(&Inbox, Post)>,
 ) -> Result<Vec<Option<W>>, AllocError> {
-    map_indices(
+    map_vec(
         rt,
-        alloc,
-        workers as usize,
-        &|_: usize| serve_connections(rt, alloc, serving),
+        posts,
+        &|(inbox, post): (&Inbox, Post)| { serve_connections(rt, alloc, serving, inbox, post) },
     )
 }
 
@@ -105,24 +157,40 @@ fn serve_all<W: Worker + Send + Drop, D: Desks<W> + Sync, R: Threads + Wait + Lo
 fn serve_until_stopped<
     W: Worker + Send + Drop,
     D: Desks<W> + Sync,
-    R: Threads + Wait + Net + Log + Sync,
+    R: Threads + Wait + Net + Clock + Log + Sync,
 >(
     rt: &R,
     alloc: Global,
     serving: &Serving<'_, D>,
-    workers: u32,
+    posts: Vec<(&Inbox, Post)>,
     address: Option<SocketAddr>,
 ) -> Result<Vec<Option<W>>, AllocError> {
     let (worked, ()) = join(
         rt,
-        || serve_all(rt, alloc, serving, workers),
+        || serve_all(rt, alloc, serving, posts),
         || wake_at_stop(rt, serving.stopping, address),
     );
     worked
 }
 
+/// An inbox for each of so many workers, and their posts.
+fn open_all<R: Net>(
+    rt: &R,
+    alloc: Global,
+    workers: u32,
+) -> Result<(Vec<Inbox>, Vec<Post>), io::Error> {
+    let mut inboxes = Vec::new(alloc);
+    let mut posts = Vec::new(alloc);
+    for _ in 0..workers {
+        let (inbox, post) = Inbox::open(rt, alloc)?;
+        inboxes.push(inbox)?;
+        posts.push(post)?;
+    }
+    Ok((inboxes, posts))
+}
+
 /// Takes connections for so many workers, until a stop is accepted, or what was done lasts no more, and all connections
-/// have ended. At an `Err` there was no memory.
+/// have ended. At an `Err` there was no memory, or the system had no descriptors to wait with.
 pub(crate) fn work<
     W: Worker + Send + Drop,
     D: Desks<W> + Sync,
@@ -135,17 +203,19 @@ pub(crate) fn work<
     workers: u32,
     listener: &TcpListener,
 ) -> Result<Vec<Option<W>>, AllocError> {
-    let (sender, connections) = bounded(alloc, workers as usize)?;
-    let serving = Serving {
-        desks,
-        connections: &connections,
-        stopping,
+    let Ok((inboxes, posts)) = open_all(rt, alloc, workers) else {
+        return Err(AllocError);
     };
+    let serving = Serving { desks, stopping };
     let address = listener.local_addr().ok();
+    let mut both = Vec::new(alloc);
+    for (inbox, post) in inboxes.iter().zip(posts) {
+        both.push((inbox, post))?;
+    }
     let ((), worked) = join(
         rt,
-        || accept(rt, listener, stopping, sender),
-        || serve_until_stopped(rt, alloc, &serving, workers, address),
+        || accept_to_end(rt, listener, stopping, &inboxes, MAX_CONNECTIONS),
+        || serve_until_stopped(rt, alloc, &serving, both, address),
     );
     worked
 }

@@ -12,6 +12,8 @@ pub(crate) struct Stopping {
     /// Where it is told to the thread that waits for it. There is room for one word.
     told: Sender<()>,
     heard: Receiver<()>,
+    /// Whether no more are taken.
+    closed: AtomicBool,
     /// Whether all connections have ended.
     ended: AtomicBool,
 }
@@ -24,6 +26,7 @@ impl Stopping {
             said: AtomicBool::new(false),
             told,
             heard,
+            closed: AtomicBool::new(false),
             ended: AtomicBool::new(false),
         })
     }
@@ -40,6 +43,15 @@ impl Stopping {
     /// Where it is said that no more are.
     pub(crate) fn said(&self) -> &AtomicBool {
         &self.said
+    }
+
+    /// No more are taken from now on.
+    pub(crate) fn close(&self) {
+        self.closed.store(true, Ordering::SeqCst);
+    }
+
+    pub(crate) fn is_closed(&self) -> bool {
+        self.closed.load(Ordering::SeqCst)
     }
 
     /// All connections have ended.

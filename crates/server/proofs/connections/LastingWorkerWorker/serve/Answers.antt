@@ -1,5 +1,5 @@
 use Rattle.server.specs.Worked.{socket_reader, socket_writer}
-use Rattle.server.specs.Worked.AreConnections.{one_more}
+use Rattle.server.specs.Worked.AreTurns.{one_more}
 use Rattle.server.proofs.Pipes.{tells_by}
 use Rattle.server.proofs.connections.LastingWorkerWorker.serve.Goals as goal
 
