@@ -6,8 +6,8 @@ ghost use Rattle.named.specs.Brokers.{world_at, IsWell};
 ghost use Rattle.broker_script.specs.Standing.{QueuesStay};
 
 use arena::{SLOTS, SlotId};
-use checker::check_content;
 use directory::{Name, Places, Queue};
+use history::check_content;
 use named::Broker;
 use std::alloc::Global;
 use words::{Kind, Refusal};

@@ -10,7 +10,7 @@ use crate::evictions::{Evictions, evict_words};
 use crate::spare::Spare;
 use arena::Layout;
 use attempts::{attempt_all, most_to_ready, repeat};
-use checker::check_content;
+use history::check_content;
 use interleave::{Act, World};
 use std::alloc::Global;
 use words::{Client, MAX_CLIENTS, Refusal, Reports, Told, Value};
