@@ -16,7 +16,7 @@ use std::alloc::{AllocError, Global};
 use std::marker::Model;
 use std::sync::Wait;
 use wire::{Answer, Request};
-use workers::{Naming, Shared};
+use workers::{Marked, Naming, Shared};
 
 /// Whether the answer is that the server stops.
 fn is_stopping(answer: &Answer) -> bool
@@ -74,6 +74,14 @@ impl<'a, J: Naming> BrokerDesk<'a, J> {
     {
         // A look at a field brings in the invariant.
         let _ = &self.counter;
+    }
+
+    /// The mark of the session up to which it has answered: whoever takes the session back learns that it goes on from
+    /// there. It is there.
+    pub fn into_mark(self) -> Option<Marked<J>>
+        ensures { result ≡ self.entry.marked }
+    {
+        self.counter.marked
     }
 
     /// Whether it has accepted a stop, after which nothing is served.

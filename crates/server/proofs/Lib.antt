@@ -1,4 +1,5 @@
 mod Endings
 mod Restarts
 mod Lefts
+mod Held
 mod Pipes

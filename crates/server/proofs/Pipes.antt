@@ -1,5 +1,5 @@
 -- A reader and a writer that were served with a journal.
-use Rattle.std.proofs.Common.{◌≡◌, ◌⊎◌, ◌++◌, ◌∷◌, inl, inr, ℕ, List, [], length, refl, subst, sym, Option, Some, None, Result, Ok, Err, arith}
+use Rattle.std.proofs.Common.{◌≡◌, ◌∙◌, ◌⊎◌, ◌++◌, ◌∷◌, ap, inl, inr, ℕ, List, [], length, refl, subst, sym, Option, Some, None, Result, Ok, Err, arith}
 use Rattle.std.specs.Prelude.{IfSome, IsErrOf, OnErr, OnOk}
 use Rattle.chronicle.specs.Chronicled.{Chronicled, entries}
 use Rattle.desk.specs.Answering.{IsServedInTurn}
@@ -15,6 +15,8 @@ use Rattle.session.specs.Sessions.{Sessioned}
 use Rattle.wire.specs.declared.answer.Answer.{Answer}
 use Rattle.wire.specs.declared.request.Request.{Request}
 use Rattle.workers.specs.Moments.{GoesOnLater}
+use Rattle.workers.specs.Naming.{Rolls}
+use Rattle.workers.specs.Opening.{IsNameOf, Unnamed}
 use Rattle.workers.proofs.Facts.{later_itself, later_still}
 use Rattle.serving.specs.Connections.{IsServedLastingly, TellsAll, TellsBy, TellsRead, TellsSome, TellsSomehow}
 use Rattle.serving.specs.Connections.{unserved}
@@ -71,26 +73,31 @@ none_in_turn clients first served none =
     subst (λ (l : List (Request × Answer)). IsServedInTurn clients first l first) (sym none)
     (record { start = first; came = later_itself first; turn = nothing })
 
-module _ (broker : Brokered) (clients : ℕ) (first : Sessioned) (IsSo : Chronicled (Request × Answer) → Type 0)
-    (opened : IsOpenedOver broker first) where
+-- there are as many clients as the broker has
+pub clients_of : {roll : Rolls} {clients : ℕ} {first : Sessioned} (o : Unnamed) → IsNameOf roll clients first o
+    → clients ≡ first.broker.counts.clients
+clients_of o name = sym name.all ∙ ap (λ (s : Sessioned). s.broker.counts.clients) name.session
+
+module _ (broker : Brokered) (clients : ℕ) (all : clients ≡ broker.counts.clients) (first : Sessioned)
+    (IsSo : Chronicled (Request × Answer) → Type 0) (opened : IsOpenedOver broker first) where
   pub piped : (token : Option Sessioned) → IsServedLastingly clients first token IsSo → IsPiped broker IsSo
   piped None by = record {
     first = first;
     opened = opened;
-    clients = clients;
     served = by.served;
     is = by.is;
     sure = first;
-    turn = none_in_turn clients first by.served.settled (by.known refl);
+    turn =
+        subst (λ (n : ℕ). IsServedInTurn n first by.served.settled first) all
+        (none_in_turn clients first by.served.settled (by.known refl));
   }
   piped (Some sure) by = record {
     first = first;
     opened = opened;
-    clients = clients;
     served = by.served;
     is = by.is;
     sure = sure;
-    turn = by.lasting;
+    turn = subst (λ (n : ℕ). IsServedInTurn n first by.served.settled sure) all by.lasting;
   }
 
   pub piped_to : (token : Option Sessioned) (last : Sessioned) (bytes : List ℕ) (j : OnDevice)
@@ -106,12 +113,12 @@ module _ (broker : Brokered) (clients : ℕ) (first : Sessioned) (IsSo : Chronic
 
 -- however it ended
 pub piped_somehow : {R W : Type 0} (reader : Reader R) (writer : Writer W) (broker : Brokered) (clients : ℕ)
-    (first : Sessioned) (token : Option Sessioned) (ended : Result Unit Failure) (from to : R) (before after : W)
+    (all : clients ≡ broker.counts.clients) (first : Sessioned) (token : Option Sessioned) (ended : Result Unit Failure) (from to : R) (before after : W)
     → IsOpenedOver broker first
     → IsServedLastingly clients first token (λ served. TellsBy reader writer unserved served ended from to before after)
     → IsPiped broker (λ served. TellsSomehow reader writer unserved served from to before after)
-piped_somehow reader writer broker clients first token ended from to before after opened by =
-    piped broker clients first (λ served. TellsSomehow reader writer unserved served from to before after) opened token
+piped_somehow reader writer broker clients all first token ended from to before after opened by =
+    piped broker clients all first (λ served. TellsSomehow reader writer unserved served from to before after) opened token
     (record { served = by.served; is = (ended, by.is); lasting = by.lasting; known = by.known })
 
 -- of the broker that a session is over

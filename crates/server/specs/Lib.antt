@@ -1,1 +1,2 @@
 pub mod Restarting
+pub mod Worked

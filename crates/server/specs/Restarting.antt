@@ -1,5 +1,6 @@
 -- A broker that goes on from the kept words of a moment, and the session over it.
-use Rattle.std.specs.Prelude.{◌≡◌, ◌<◌, ◌≤◌, ℕ, List, Some, take}
+use Rattle.std.specs.Prelude.{◌≡◌, ◌<◌, ◌≤◌, ℕ, false, List, Some, take}
+use Rattle.words.specs.declared.call.Call.{Call}
 use Rattle.words.specs.declared.call.Client.{Client}
 use Rattle.words.specs.declared.call.Kind.TheVariants.{Log as log_kind}
 use Rattle.words.specs.declared.call.Reply.{Reply}
@@ -7,7 +8,10 @@ use Rattle.persist.specs.Memory.{Words, words_at_rest}
 use Rattle.journal.specs.Frame.{Batch}
 use Rattle.journal.specs.Journal.{words_after}
 use Rattle.journal_file.specs.OnDevice.{OnDevice}
-use Rattle.interleave.specs.State.{State}
+use Rattle.events.specs.Orders.{IsTakenAs}
+use Rattle.events.specs.Replay.{call_at}
+use Rattle.interleave.specs.Holds.{IsExplained}
+use Rattle.interleave.specs.State.{State, kept_content, order_in}
 use Rattle.named.specs.Brokers.{Brokered, world_at}
 use Rattle.session.specs.Keeping.{IsSettled, told_when_asked}
 use Rattle.session.specs.Sessions.{Sessioned, kept_at}
@@ -82,3 +86,22 @@ AreRepliesSettledBy first now b =
     (client : Client) (asked : Asked) (reply : Reply) (number : ℕ) (replied : IsReplied first now client asked reply)
     → RanNumbered replied.session client replied.has.entry number
     → IsSettled (told_when_asked b replied.has.entry.queue.0 client.0) number reply
+
+-- The call took effect once and for all, with this reply. It is in the order that explains what its queue's history had
+-- when all stopped, and after the restart the queue holds what the replay of that order leaves.
+pub record IsHeldAfter (b : Brokered) (slot place : ℕ) (call : Call) (reply : Reply) : Type 0 where
+  pub left : State
+  pub explained : IsExplained left
+  pub names : call_at left.log.events place ≡ Some call
+  pub taken : IsTakenAs (order_in left) place reply
+  pub world : State
+  pub is : world_at b slot ≡ Some world
+  pub holds : kept_content world ≡ kept_content left
+
+-- each reply that stands in its client's list, where the call ran, of a queue of either kind, and no history has ended
+-- since
+abbrev pub AreRepliesHeld : Sessioned → Sessioned → Brokered → Type 0
+AreRepliesHeld first now b =
+    (client : Client) (asked : Asked) (reply : Reply) (place : ℕ) (replied : IsReplied first now client asked reply)
+    → replied.has.entry.place ≡ Some place → replied.later.ended ≡ false
+    → IsHeldAfter b replied.has.entry.queue.0 place asked.call reply

@@ -1,17 +1,18 @@
 //! How a shared broker begins, and what it leaves.
 
-ghost use Rattle.std.specs.Prelude.{◌≡◌, ◌⊎◌, IfErr, IfOk};
+ghost use Rattle.std.specs.Prelude.{◌≡◌, ◌⊎◌, All, IfErr, IfOk};
 ghost use Rattle.session.specs.Sessions.{IsUncalled};
 ghost use Rattle.workers.specs.Opening.{IsInUse, IsNameOf};
 ghost use Rattle.workers.specs.Seats.{AreAllInOrder};
-ghost use Rattle.serving.specs.Image.{IsBusyOrNoMemory, IsImageAfter, IsOpenedOver};
+ghost use Rattle.serving.specs.Image.{IsBusyOrNoMemory, IsOpenedOver};
+ghost use Rattle.server.specs.Worked.{IsImageServed, IsMarked};
 
 use named::Broker;
 use seating::Seating;
 use session::Session;
 use std::alloc::Global;
 use words::Refusal;
-use workers::{Naming, Opened, Operator, Seat, Shared};
+use workers::{Marked, Naming, Opened, Operator, Seat, Shared};
 
 /// A session over the broker, for connections to share. It is refused where a call or a creation is under way (Busy),
 /// and for want of memory (NoMemory).
@@ -63,17 +64,21 @@ pub(crate) fn shared_seats<J: Naming>(
     }
 }
 
-/// The image of the broker that connections shared, once they have all ended. It is refused for want of memory
-/// (NoMemory), and where a seat is in use (Busy), which is so of none then.
+/// The image of the broker that connections shared, once they have all ended, each of whose replies was so up to one of
+/// these marks. It is refused for want of memory (NoMemory), and where a seat is in use (Busy), which is so of none then.
 pub(crate) fn image_left<J: Naming>(
     alloc: Global,
     shared: Shared<J>,
     seats: Seating<J>,
+    marks: Vec<Marked<J>>,
 ) -> Result<Vec<u8>, Refusal>
-    ensures image { IfOk result (λ bytes. IsImageAfter J.first bytes.items) }
+    requires opened { IsOpenedOver J.first.broker J.first }
+    requires clients { J.clients ≡ J.first.broker.counts.clients }
+    requires marks { All (IsMarked J.clients J.first) marks.items }
+    ensures image { IfOk result (λ bytes. IsImageServed J.first.broker bytes.items) }
     ensures errors { IfErr result IsBusyOrNoMemory }
 {
-    let (seats, _operator) = seats.into_parts(alloc)?;
-    let session = shared.close(seats);
+    let (seats, operator) = seats.into_parts(alloc)?;
+    let session = shared.close_with(seats, operator, marks);
     session.broker().to_image()
 }

@@ -1,12 +1,13 @@
 //! Serving connections with a journal.
 
-ghost use Rattle.std.specs.Prelude.{◌≡◌, IfOk};
+ghost use Rattle.std.specs.Prelude.{◌≡◌, All, IfOk};
 ghost use Rattle.session.specs.Sessions.{IsUncalled};
-ghost use Rattle.workers.specs.Moments.{IsFirstMoment};
+ghost use Rattle.workers.specs.Moments.{GoesOnLater, IsFirstMoment};
 ghost use Rattle.workers.specs.Opening.{IsNameOf};
-ghost use Rattle.serving.specs.Journaled.{IsLeftAfter, IsLeftBy};
+ghost use Rattle.serving.specs.Image.{IsOpenedOver};
+ghost use Rattle.server.specs.Worked.{IsLeftServed, IsSettled};
 
-use crate::connections::{Desks, Sharing};
+use crate::connections::{Desks, InJournal, LastingWorker, Worker};
 use crate::lasting_broker::LastingBroker;
 use crate::listening::{Service, work};
 use crate::stopping::Stopping;
@@ -20,45 +21,18 @@ use std::alloc::{AllocError, Global};
 use std::marker::Brand;
 use std::net::{Net, TcpListener};
 use std::sync::Wait;
-use std::sync::atomic::AtomicBool;
 use std::thread::{Threads, join};
 use std::time::Clock;
 use words::Refusal;
-use workers::{Naming, Shared};
-
-/// The journal of a shared session that is kept beside the connections.
-trait KeptBeside<J: Naming> {
-    /// The session.
-    fn session(&self) -> &Shared<J>;
-
-    /// Whether it is to be kept each second.
-    fn is_kept_each_second(&self) -> bool;
-
-    /// Keeps it each second, until it is said that all connections have ended.
-    fn keep_until<R: Wait + Clock>(&self, rt: &R, ended: &AtomicBool);
-}
-
-impl<J: Naming + Settling, S: Storage + Drop> KeptBeside<J> for SharedJournal<'_, J, S> {
-    fn session(&self) -> &Shared<J> {
-        self.shared()
-    }
-
-    fn is_kept_each_second(&self) -> bool {
-        self.policy() == Policy::EachSecond
-    }
-
-    fn keep_until<R: Wait + Clock>(&self, rt: &R, ended: &AtomicBool) {
-        self.keep_each_second(rt, ended);
-    }
-}
+use workers::{Assured, Naming};
 
 /// Keeps the journal each second until all connections have ended. Where it fails for good, no more are taken.
-fn keep_beside<J: Naming, S: Desks<J> + KeptBeside<J>, R: Wait + Clock>(
+fn keep_beside<J: Naming + Settling, S: Storage + Drop, R: Wait + Clock>(
     rt: &R,
-    journal: &S,
+    journal: &SharedJournal<'_, J, S>,
     stopping: &Stopping,
 ) {
-    journal.keep_until(rt, stopping.ended());
+    journal.keep_each_second(rt, stopping.ended());
     if journal.has_failed() {
         stopping.say();
         stopping.tell(rt);
@@ -67,55 +41,92 @@ fn keep_beside<J: Naming, S: Desks<J> + KeptBeside<J>, R: Wait + Clock>(
 
 /// Takes connections and serves them, as [`work`] does, and says when all have ended.
 fn work_to_end<
-    J: Naming + Send + Sync,
-    S: Desks<J> + Sync,
+    W: Worker + Send + Drop,
+    D: Desks<W> + Sync,
     R: Threads + Wait + Net + Clock + Log + Sync,
 >(
     rt: &R,
     alloc: Global,
-    sharing: Sharing<'_, J>,
-    desks: &S,
+    desks: &D,
+    stopping: &Stopping,
     workers: u32,
     listener: &TcpListener,
-) -> Result<(), AllocError> {
-    let stopping = sharing.stopping;
-    let worked = work(rt, alloc, sharing, desks, workers, listener);
+) -> Result<Vec<Option<W>>, AllocError> {
+    let worked = work(rt, alloc, desks, stopping, workers, listener);
     stopping.end();
     worked
 }
 
+/// The last token of each worker that has one.
+fn tokens_of<J: Naming + Settling, S: Storage + Drop>(
+    alloc: Global,
+    workers: Vec<Option<LastingWorker<'_, J, S>>>,
+) -> Result<Vec<Assured<J>>, AllocError>
+    ensures { IfOk result (λ tokens. All (IsSettled J.clients J.first) tokens.items) }
+{
+    let mut tokens = Vec::new(alloc);
+    tokens.reserve(workers.len())?;
+    for worker in workers {
+        let Some(worker) = worker else {
+            continue;
+        };
+        if let Some(token) = worker.into_token() {
+            tokens.push_reserved(token);
+        }
+    }
+    Ok(tokens)
+}
+
 /// Takes connections and serves them, as [`work`] does, and beside that keeps the journal, where it is to be kept each
-/// second. At an `Err` there was no memory.
+/// second. It answers the tokens of those who served. At an `Err` there was no memory.
 fn work_beside<
-    J: Naming + Send + Sync,
-    S: Desks<J> + KeptBeside<J> + Sync,
+    J: Naming + Settling + Send + Sync,
+    S: Storage + Drop + Send,
     R: Threads + Wait + Net + Clock + Log + Sync,
 >(
     rt: &R,
     alloc: Global,
     seats: &Seating<J>,
-    journal: &S,
+    journal: &SharedJournal<'_, J, S>,
     workers: u32,
     listener: &TcpListener,
-) -> Result<(), AllocError> {
+) -> Result<Vec<Assured<J>>, AllocError>
+    ensures { IfOk result (λ tokens. All (IsSettled J.clients J.first) tokens.items) }
+{
     let stopping = Stopping::new(alloc)?;
-    let sharing = Sharing {
-        shared: journal.session(),
+    let desks = InJournal {
+        journal,
         seats,
         stopping: &stopping,
     };
-    if !journal.is_kept_each_second() {
-        return work(rt, alloc, sharing, journal, workers, listener);
+    if journal.policy() != Policy::EachSecond {
+        let worked = work(rt, alloc, &desks, &stopping, workers, listener)?;
+        return tokens_of(alloc, worked);
     }
     let ((), worked) = join(
         rt,
         || keep_beside(rt, journal, &stopping),
-        || work_to_end(rt, alloc, sharing, journal, workers, listener),
+        || work_to_end(rt, alloc, &desks, &stopping, workers, listener),
     );
-    worked
+    tokens_of(alloc, worked?)
 }
 
-/// Serves connections to the end, settles and keeps what no reply told of, and answers who settles.
+/// Hears tokens: the journal assures the session of each, and its last hand-on goes on from it.
+fn all_heard<J: Naming, S: Storage + Drop>(
+    mut settler: Settler<J, S>,
+    tokens: Vec<Assured<J>>,
+) -> Settler<J, S>
+    ensures settler { result ≡ settler }
+    ensures heard { All (λ sure. GoesOnLater sure settler.kept.last) tokens.items }
+{
+    for token in tokens {
+        settler = settler.hears(token).0;
+    }
+    settler
+}
+
+/// Serves connections to the end, settles and keeps what no reply told of, and answers who settles, and the tokens of
+/// those who served.
 fn serve_to_end<
     J: Naming + Settling + Send + Sync,
     S: Storage + Drop + Send,
@@ -127,13 +138,14 @@ fn serve_to_end<
     journal: SharedJournal<'_, J, S>,
     workers: u32,
     listener: &TcpListener,
-) -> Result<Settler<J, S>, AllocError>
-    ensures { IfOk result (λ settler. settler.policy ≡ J.policy) }
+) -> Result<(Settler<J, S>, Vec<Assured<J>>), AllocError>
+    ensures policy { IfOk result (λ r. r.0.policy ≡ J.policy) }
+    ensures settled { IfOk result (λ r. All (IsSettled J.clients J.first) r.1.items) }
 {
-    work_beside(rt, alloc, seats, &journal, workers, listener)?;
+    let tokens = work_beside(rt, alloc, seats, &journal, workers, listener)?;
     // Where that fails for good, nothing is left.
     let _ = journal.settle_and_keep(rt);
-    Ok(journal.into_settler())
+    Ok((journal.into_settler(), tokens))
 }
 
 /// Serves, once the broker has its name.
@@ -153,7 +165,8 @@ fn served<
     requires words { noted.words.items ≡ J.first.broker.words.kept }
     requires moment { IsFirstMoment J.first }
     requires policy { journaling.policy ≡ J.policy }
-    ensures { IfOk result (λ left. IsLeftAfter J.first left.image.items left.journal) }
+    requires opened { IsOpenedOver J.first.broker J.first }
+    ensures { IfOk result (λ left. IsLeftServed J.first.broker left.image.items left.journal) }
 {
     let LastingBroker {
         shared,
@@ -163,10 +176,10 @@ fn served<
     let journal = SharedJournal::new(alloc, &shared, settler);
     let workers = service.workers.max(1);
     match serve_to_end(rt, alloc, &seats, journal, workers, listener) {
-        Ok(settler) => LastingBroker {
+        Ok((settler, tokens)) => LastingBroker {
             shared,
             seats,
-            settler,
+            settler: all_heard(settler, tokens),
         }
         .end(alloc),
         Err(_) => Err(Unserved::Refused(Refusal::NoMemory)),
@@ -187,7 +200,8 @@ pub fn net_lasting<S: Storage + Drop + Send, R: Threads + Wait + Net + Clock + L
     listener: &TcpListener,
 ) -> Result<Left<S>, Unserved>
     requires { IsUncalled broker }
-    ensures { IfOk result (λ left. IsLeftBy broker left.image.items left.journal) }
+    // Each request whose reply was settled was answered in turn, by the session whose image and journal are left.
+    ensures { IfOk result (λ left. IsLeftServed broker left.image.items left.journal) }
 {
     let noted = begin_noting(alloc, broker)?;
     served::<Brand, S, R>(rt, alloc, noted, service, journaling, listener)

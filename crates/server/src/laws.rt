@@ -1,14 +1,14 @@
 //! What holds of every restart.
 // A law's clause begins with all that it speaks of, so some of them are longer than 120 columns.
 
-ghost use Rattle.std.specs.Prelude.{List, ℕ};
+ghost use Rattle.std.specs.Prelude.{◌≡◌, false, List, ℕ};
 ghost use Rattle.persist.specs.Memory.{words_at_rest};
 ghost use Rattle.named.specs.Brokers.{Brokered};
 ghost use Rattle.session.specs.Keeping.{SessionGoesOn};
 ghost use Rattle.session.specs.Sessions.{Sessioned};
 ghost use Rattle.workers.specs.Moments.{IsMomentOf};
 ghost use Rattle.opening.specs.Opening.{IsOpened};
-ghost use Rattle.server.specs.Restarting.{AreRepliesSettledBy, AreSettledBy, GoesOnFrom, IsReopenedFrom, IsReopenedLater, IsRestartedFrom, LivesOn};
+ghost use Rattle.server.specs.Restarting.{AreRepliesHeld, AreRepliesSettledBy, AreSettledBy, GoesOnFrom, IsReopenedFrom, IsReopenedLater, IsRestartedFrom, LivesOn};
 
 use workers::marked_answers_are_told;
 
@@ -32,6 +32,15 @@ pub fn settled_numbers_outlast_restarts()
 pub fn lives_go_on()
     ensures restart { (earlier next : Sessioned) → IsRestartedFrom earlier next → SessionGoesOn earlier next }
     ensures lives { (earlier now : Sessioned) → LivesOn earlier now → SessionGoesOn earlier now }
+{}
+
+/// Let a reply stand in its client's list, of a put or a take that ran, in a queue of either kind. Let no history have
+/// ended since, by a rotation or a renewal. Then after the restart its queue holds what a plain queue holds that was
+/// served in an order in which the call stands, with this reply: of a put either its item is there, or a take in that
+/// order got it.
+pub fn replies_outlast_restarts()
+    ensures { (first now : Sessioned) (b : Brokered) (later : IsReopenedLater first now b)
+        → later.left.later.ended ≡ false → AreRepliesHeld first now b }
 {}
 
 /// Let a desk have told a reply with a number, and let a journal assure the session up to which it stands. What a stop

@@ -14,6 +14,7 @@ mod stopping;
 pub use lasting_net::net_lasting;
 pub use lasting_pipe::pipe_lasting;
 pub use laws::{
-    lives_go_on, restarts_go_on, settled_numbers_outlast_restarts, told_replies_outlast_restarts,
+    lives_go_on, replies_outlast_restarts, restarts_go_on, settled_numbers_outlast_restarts,
+    told_replies_outlast_restarts,
 };
 pub use listening::{Service, net};

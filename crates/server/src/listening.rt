@@ -1,11 +1,12 @@
 //! Serving connections.
 
-ghost use Rattle.std.specs.Prelude.{IfErr, IfOk};
+ghost use Rattle.std.specs.Prelude.{All, IfErr, IfOk};
 ghost use Rattle.session.specs.Sessions.{IsUncalled};
 ghost use Rattle.workers.specs.Opening.{IsNameOf};
-ghost use Rattle.serving.specs.Image.{IsBusyOrNoMemory, IsImageAfter, IsImageLeftBy};
+ghost use Rattle.serving.specs.Image.{IsBusyOrNoMemory, IsOpenedOver};
+ghost use Rattle.server.specs.Worked.{IsImageServed, IsMarked};
 
-use crate::connections::{Desks, InMemory, Serving, Sharing, serve_connections};
+use crate::connections::{BrokerWorker, Desks, InMemory, Serving, Worker, serve_connections};
 use crate::ending::{image_left, shareable, shared_seats};
 use crate::stopping::Stopping;
 use crossbeam_channel::{Sender, bounded};
@@ -19,7 +20,7 @@ use std::sync::Wait;
 use std::thread::{Threads, join, map_indices, sleep};
 use std::time::{Clock, Duration};
 use words::Refusal;
-use workers::{Naming, Opened, Shared};
+use workers::{Marked, Naming, Opened, Shared};
 
 /// How long the thread that takes connections rests after one that it could not take. Where there are no descriptors
 /// left, each fails at once.
@@ -84,39 +85,38 @@ fn wake_at_stop<R: Wait + Net + Log>(rt: &R, stopping: &Stopping, address: Optio
     }
 }
 
-/// So many workers serve the connections that are taken, until no more are. At an `Err` there was no memory for their
-/// threads.
-fn serve_all<J: Naming + Send + Sync, S: Desks<J> + Sync, R: Threads + Wait + Log + Sync>(
+/// So many workers serve the connections that are taken, until no more are; those that served any are answered. At an
+/// `Err` there was no memory for their threads.
+fn serve_all<W: Worker + Send + Drop, D: Desks<W> + Sync, R: Threads + Wait + Log + Sync>(
     rt: &R,
     alloc: Global,
-    serving: &Serving<'_, J, S>,
+    serving: &Serving<'_, D>,
     workers: u32,
-) -> Result<(), AllocError> {
+) -> Result<Vec<Option<W>>, AllocError> {
     map_indices(
         rt,
         alloc,
         workers as usize,
         &|_: usize| serve_connections(rt, alloc, serving),
-    )?;
-    Ok(())
+    )
 }
 
 /// The same, and beside them this thread waits for a stop.
 fn serve_until_stopped<
-    J: Naming + Send + Sync,
-    S: Desks<J> + Sync,
+    W: Worker + Send + Drop,
+    D: Desks<W> + Sync,
     R: Threads + Wait + Net + Log + Sync,
 >(
     rt: &R,
     alloc: Global,
-    serving: &Serving<'_, J, S>,
+    serving: &Serving<'_, D>,
     workers: u32,
     address: Option<SocketAddr>,
-) -> Result<(), AllocError> {
+) -> Result<Vec<Option<W>>, AllocError> {
     let (worked, ()) = join(
         rt,
         || serve_all(rt, alloc, serving, workers),
-        || wake_at_stop(rt, serving.sharing.stopping, address),
+        || wake_at_stop(rt, serving.stopping, address),
     );
     worked
 }
@@ -124,23 +124,22 @@ fn serve_until_stopped<
 /// Takes connections for so many workers, until a stop is accepted, or what was done lasts no more, and all connections
 /// have ended. At an `Err` there was no memory.
 pub(crate) fn work<
-    J: Naming + Send + Sync,
-    S: Desks<J> + Sync,
+    W: Worker + Send + Drop,
+    D: Desks<W> + Sync,
     R: Threads + Wait + Net + Clock + Log + Sync,
 >(
     rt: &R,
     alloc: Global,
-    sharing: Sharing<'_, J>,
-    desks: &S,
+    desks: &D,
+    stopping: &Stopping,
     workers: u32,
     listener: &TcpListener,
-) -> Result<(), AllocError> {
+) -> Result<Vec<Option<W>>, AllocError> {
     let (sender, connections) = bounded(alloc, workers as usize)?;
-    let stopping = sharing.stopping;
     let serving = Serving {
-        sharing,
         desks,
         connections: &connections,
+        stopping,
     };
     let address = listener.local_addr().ok();
     let ((), worked) = join(
@@ -151,7 +150,27 @@ pub(crate) fn work<
     worked
 }
 
-/// Serves connections at these seats, to the end.
+/// The last mark of each worker that served any connection.
+fn marks_of<J: Naming>(
+    alloc: Global,
+    workers: Vec<Option<BrokerWorker<'_, J>>>,
+) -> Result<Vec<Marked<J>>, AllocError>
+    ensures { IfOk result (λ marks. All (IsMarked J.clients J.first) marks.items) }
+{
+    let mut marks = Vec::new(alloc);
+    marks.reserve(workers.len())?;
+    for worker in workers {
+        let Some(worker) = worker else {
+            continue;
+        };
+        if let Some(marked) = worker.into_mark() {
+            marks.push_reserved(marked);
+        }
+    }
+    Ok(marks)
+}
+
+/// Serves connections at these seats, to the end, and answers the marks of those who served.
 fn serve_seats<J: Naming + Send + Sync, R: Threads + Wait + Net + Clock + Log + Sync>(
     rt: &R,
     alloc: Global,
@@ -159,14 +178,17 @@ fn serve_seats<J: Naming + Send + Sync, R: Threads + Wait + Net + Clock + Log + 
     seats: &Seating<J>,
     workers: u32,
     listener: &TcpListener,
-) -> Result<(), AllocError> {
+) -> Result<Vec<Marked<J>>, AllocError>
+    ensures { IfOk result (λ marks. All (IsMarked J.clients J.first) marks.items) }
+{
     let stopping = Stopping::new(alloc)?;
-    let sharing = Sharing {
+    let desks = InMemory {
         shared,
         seats,
         stopping: &stopping,
     };
-    work(rt, alloc, sharing, &InMemory, workers, listener)
+    let workers = work(rt, alloc, &desks, &stopping, workers, listener)?;
+    marks_of(alloc, workers)
 }
 
 /// Serves, once the broker has its name.
@@ -177,13 +199,14 @@ fn served<J: Naming + Send + Sync, R: Threads + Wait + Net + Clock + Log + Sync>
     service: Service,
     listener: &TcpListener,
 ) -> Result<Vec<u8>, Refusal>
-    requires { IsNameOf J.roll J.clients J.first opened }
-    ensures image { IfOk result (λ bytes. IsImageAfter J.first bytes.items) }
+    requires name { IsNameOf J.roll J.clients J.first opened }
+    requires opened { IsOpenedOver J.first.broker J.first }
+    ensures image { IfOk result (λ bytes. IsImageServed J.first.broker bytes.items) }
     ensures errors { IfErr result IsBusyOrNoMemory }
 {
     let (shared, seats) = shared_seats::<J>(alloc, opened, service.renew)?;
     match serve_seats(rt, alloc, &shared, &seats, service.workers.max(1), listener) {
-        Ok(()) => image_left(alloc, shared, seats),
+        Ok(marks) => image_left(alloc, shared, seats, marks),
         Err(_) => Err(Refusal::NoMemory),
     }
 }
@@ -201,7 +224,8 @@ pub fn net<R: Threads + Wait + Net + Clock + Log + Sync>(
     listener: &TcpListener,
 ) -> Result<Vec<u8>, Refusal>
     requires { IsUncalled broker }
-    ensures image { IfOk result (λ bytes. IsImageLeftBy broker bytes.items) }
+    // Each request of a connection was answered in turn, by the session whose image is left.
+    ensures image { IfOk result (λ bytes. IsImageServed broker bytes.items) }
     ensures errors { IfErr result IsBusyOrNoMemory }
 {
     let opened = shareable(alloc, broker)?;

@@ -32,12 +32,6 @@ pub record IsImageAfter (first : Sessioned) (bytes : List ℕ) : Type 0 where
   pub promises : KeepsNumbers last
   pub image : IsImageOf last.broker bytes
 
--- the image that a broker leaves, which a session over it served
-pub record IsImageLeftBy (broker : Brokered) (bytes : List ℕ) : Type 0 where
-  pub first : Sessioned
-  pub opened : IsOpenedOver broker first
-  pub left : IsImageAfter first bytes
-
 -- why a broker is not served, or leaves no image: a call, a creation or a seat is in use, or there is no memory
 abbrev pub IsBusyOrNoMemory : Refusal → Type 0
 IsBusyOrNoMemory refusal = (refusal ≡ NoMemory) ⊎ (refusal ≡ Busy)

@@ -34,23 +34,16 @@ pub record IsLeftSince (first since : Sessioned) (bytes : List ℕ) (j : OnDevic
 pub record IsPiped (broker : Brokered) (IsSo : Chronicled (Request × Answer) → Type 0) : Type 0 where
   pub first : Sessioned
   pub opened : IsOpenedOver broker first
-  pub clients : ℕ
   pub served : Chronicled (Request × Answer)
   pub is : IsSo served
   pub sure : Sessioned
-  pub turn : IsServedInTurn clients first served.settled sure
+  pub turn : IsServedInTurn broker.counts.clients first served.settled sure
 
 -- and it came to what the image and the journal have
 pub record IsPipedTo (broker : Brokered) (bytes : List ℕ) (j : OnDevice) (IsSo : Chronicled (Request × Answer) → Type 0)
     : Type 0 where
   pub piped : IsPiped broker IsSo
   pub left : IsLeftSince piped.first piped.sure bytes j
-
--- the image and the journal that a broker leaves, which a session over it served
-pub record IsLeftBy (broker : Brokered) (bytes : List ℕ) (j : OnDevice) : Type 0 where
-  pub first : Sessioned
-  pub opened : IsOpenedOver broker first
-  pub left : IsLeftAfter first bytes j
 
 -- why a broker is not served with a journal to the end of its input
 abbrev pub unserved_by : Failure → Unserved

@@ -1,7 +1,7 @@
 //! Serving one connection of a broker that connections share.
 // A clause that names the desk, the reader and the writer before and after may be longer than 120 columns.
 
-ghost use Rattle.std.specs.Prelude.{◌≡◌, ◌<◌, ◌↔◌, [], IfSome, IsErrOf, None, OnOk};
+ghost use Rattle.std.specs.Prelude.{◌≡◌, ◌≢◌, ◌<◌, ◌↔◌, [], Err, IfSome, IsErrOf, None, OnOk};
 ghost use Rattle.chronicle.specs.Chronicled.{entries};
 ghost use Rattle.devices.specs.Devices.{IsFlushed};
 ghost use Rattle.desk.specs.Answering.{IsServedAtMark, IsServedInTurn};
@@ -39,6 +39,7 @@ pub fn connection<J: Naming, T: Wait, R: Reader, W: Writer>(
         desk.old.desk.served desk.new.desk.served reader.old reader.new writer.old writer.new }
     ensures write_failed { IsErrOf result Failure.WriteFailed → TellsSome R.Reader W.Writer
         desk.old.desk.served desk.new.desk.served reader.old writer.old writer.new }
+    ensures kept { result ≢ Err Failure.NotKept }
     ensures read_fault { IsErrOf result Failure.ReadFailed ↔ (R.failures reader.old < R.failures reader.new) }
     ensures write_fault { IsErrOf result Failure.WriteFailed ↔ (W.failures writer.old < W.failures writer.new) }
 {

@@ -1,9 +1,10 @@
-use Rattle.server.proofs.Endings.{image_after}
+use Rattle.server.proofs.Endings.{image_served}
 use Rattle.server.proofs.ending.image_left.Goals as goal
 
 pub returns-clause-image : goal.returns-clause-image
 returns-clause-image g c =
-    let closed = c.close-session.ensures in
+    let closed = c.close_with-session.ensures in
     let image = c.to_image.ensures in
-    image_after _ _ g.J.Naming.first c.close-session.result c.broker.result.now c.to_image.result
-    c.broker.ensures.broker closed.lists closed.goes_on closed.promises image.image image.read image.boots
+    image_served _ _ g.J.Naming.first c.close_with-session.result c.broker.result.now g.J.Naming.clients c.args.marks.items
+    c.to_image.result c.requires.clients c.requires.opened c.requires.marks closed.later c.broker.ensures.broker
+    closed.lists closed.goes_on closed.promises image.image image.read image.boots

@@ -1,0 +1,14 @@
+use Rattle.server.specs.Worked.{socket_reader, socket_writer}
+use Rattle.server.specs.Worked.AreConnections.{one_more}
+use Rattle.server.proofs.Pipes.{tells_by}
+use Rattle.server.proofs.connections.LastingWorkerWorker.serve.Goals as goal
+
+pub invariant_of-result-2 : goal.invariant_of-result-2
+invariant_of-result-2 g c =
+    let served = c.lasting_connection-served in
+    let e = served.ensures in
+    let old = c.self.inside.desk.desk.desk.served in
+    let new = served.new.desk.desk.desk.served in
+    one_more c.self.invariant served.result
+    (tells_by socket_reader socket_writer old new served.result tt tt tt tt e.served e.flushed e.read_failed
+    e.write_failed e.not_kept)
