@@ -38,7 +38,7 @@ bent docs/PROOFS.md 'test_threads: crowd' 'test_threads: crowds' 'the crate test
 bent docs/PROOFS.md 'bench/kill.sh --journal |' 'bench/kill.sh --journals |' 'bench/kill.sh has no --journals'
 bent docs/PROOFS.md '| test_threads: crowd |' '| test_crowd |' 'there is no test_crowd'
 # A call of the second table, a path, a link to a page and to a heading, and a section that is cited.
-bent docs/PROOFS.md '| checker | `check` |' '| checker | `checks` |' 'checker has no checks'
+bent docs/PROOFS.md '| history | `check`;' '| history | `checks`;' 'history has no checks'
 bent README.md 'examples/killed.py' 'examples/kill.py' 'there is no such path'
 bent README.md '](docs/LIMITS.md)' '](docs/LIMIT.md)' 'there is no such file'
 bent README.md 'docs/PROOFS.md#crates' 'docs/PROOFS.md#crate' 'there is no such heading'

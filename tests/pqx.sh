@@ -41,7 +41,8 @@ try unknown-option 2 --walk < /dev/null
 try unknown-option-of-run 2 run --walk < /dev/null
 try stray-word 2 run crash.script < /dev/null
 try empty-word 2 '' < /dev/null
-try misspelt-command 2 runs < "$data/bad-step-0.script"
+printf 'queue durable 1 1\nstep 0 0\n' > "$work/bad"
+try misspelt-command 2 runs < "$work/bad"
 
 # What a command of pqx prints of a script, beside what is stored: NAME SCRIPT STORED COMMAND.. A bad line is told on
 # standard error alone, and ends with status 1.
@@ -66,6 +67,30 @@ done
 for script in examples/*.script; do
     judge "$script" "$(difference "$script" "$data/$(basename "$script")" "$script")"
 done
+
+# A second crash after each step of a recovery: before the one that keeps the head, from there on, and after the last.
+for step in $(seq 29); do
+    case $step in
+        29) came_to=ready ;;
+        2?) came_to=kept ;;
+        *) came_to=recovering ;;
+    esac
+    sed "s/STEP/$step/" tests/pqx/crash-again.script > "$work/in"
+    plays "a second crash after step $step" "$work/in" "tests/pqx/crash-again-$came_to.txt" run
+done
+
+# Scripts with a bad line: a name, the number of that line, and the script.
+while read -r name number script; do
+    printf '%b' "$script" > "$work/in"
+    printf 'line %s: 28 BadLine\n' "$number" > "$work/stored"
+    plays "bad $name" "$work/in" "$work/stored" run
+done < "$data/bad-lines.txt"
+yes '' | head -n 1001 > "$work/in"
+printf 'line 1001: 28 BadLine\n' > "$work/stored"
+plays 'bad 1001 lines' "$work/in" "$work/stored" run
+yes '' | head -n 1000 > "$work/in"
+: > "$work/stored"
+plays '1000 lines' "$work/in" "$work/stored" run
 
 # A crash of a whole broker at each point of a script, and which words are kept then.
 for script in tests/broker/points/*.in; do
@@ -214,8 +239,8 @@ printf 'pqx: 27 WriteFailed\n' > "$work/wanted"
 "$pqx" run --page "$work/none/page" < examples/kept.script > "$work/out" 2> "$work/err" || status=$?
 compare 'a run without a folder for its page' 1 "$status" "$work/transcript" "$work/wanted"
 status=0
-"$pqx" run --page "$work/page" < "$data/bad-step-0.script" > "$work/out" 2> "$work/err" || status=$?
-sed 's/^/pqx: /' "$data/bad-step-0.out" > "$work/wanted"
+"$pqx" run --page "$work/page" < "$work/bad" > "$work/out" 2> "$work/err" || status=$?
+printf 'pqx: line 2: 28 BadLine\n' > "$work/wanted"
 compare 'a page of a bad script' 1 "$status" /dev/null "$work/wanted"
 
 # What the reports say of bad scripts, options and devices.

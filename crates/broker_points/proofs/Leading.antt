@@ -13,9 +13,6 @@ leads_on (further lines line rest) more = further lines line (leads_on rest more
 pub record LinesLead (start : Played) (all : List Statement) (now : Played) (left : List Statement) : Type 0 where
   pub on : (new : Played) → Leads now left new → Leads start all new
 
-pub lines_start : (start : Played) (all : List Statement) → LinesLead start all start all
-lines_start start all = record { on = λ new leads. leads }
-
 pub lines_more : (start now next : Played) (all left : List Statement) (statement : Statement)
     → Leads now (statement ∷ []) next → LinesLead start all now (statement ∷ left) → LinesLead start all next left
 lines_more start now next all left statement one leads = record {

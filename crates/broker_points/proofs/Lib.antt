@@ -1,2 +1,6 @@
+mod Making
+mod Said
+mod Plainly
+mod Explaining
 mod Leading
 mod Sweeps

@@ -17,7 +17,7 @@ use Rattle.broker_lines.specs.declared.statements.Statement.{Statement}
 use Rattle.broker_lines.specs.declared.statements.Statement.TheVariants.{Whole as whole}
 use Rattle.broker_script.specs.Play.{Played, new_played, session_of}
 use Rattle.broker_script.specs.Transcript.{FollowsLine}
-use Rattle.broker_checks.specs.Reports.{point_text}
+use Rattle.broker_points.specs.Reports.{point_text}
 
 -- some lines lead a broker from here to there
 pub data Leads : Played → List Statement → Played → Type 0 where

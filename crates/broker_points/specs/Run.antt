@@ -16,7 +16,7 @@ use Rattle.broker_lines.specs.Scripted.{Scripted}
 use Rattle.broker_lines.specs.declared.statements.BrokerLine.{BrokerLine}
 use Rattle.broker_lines.specs.declared.statements.Statement.{Statement}
 use Rattle.broker_script.specs.Play.{new_played}
-use Rattle.broker_acts.specs.Acts.{AreActsOf}
+use Rattle.broker_points.specs.Acts.{AreActsOf}
 use Rattle.broker_points.specs.Points.{IsPointAt}
 
 -- the last line counts the points, and those that are not ok

@@ -8,10 +8,11 @@ ghost use Rattle.broker_script.specs.Play.{session_of};
 ghost use Rattle.broker_script.specs.Standing.{keeps_queues, QueuesStay};
 ghost use Rattle.broker_script.specs.Transcript.{FollowsLine};
 ghost use Rattle.broker_points.specs.Points.{downtime, eviction, IsPointAfterAll, Leads};
-ghost use Rattle.broker_checks.specs.Reports.{line_of_point};
+ghost use Rattle.broker_points.specs.Reports.{line_of_point};
 
+use crate::kept::{are_explained, are_kept};
+use crate::texts::line;
 use arena::{BrokerLayout, SLOTS};
-use broker_checks::{are_explained, are_kept, line};
 use broker_lines::{BrokerLine, Printed, Statement};
 use broker_script::Player;
 use directory::Places;
@@ -23,12 +24,12 @@ use words::Refusal;
 
 /// What a crash at one point of a broker's script comes to, once recovery has ended.
 #[derive(Drop)]
-pub struct Point {
+pub(crate) struct Point {
     /// The line of the report.
-    pub text: Vec<u8>,
+    pub(crate) text: Vec<u8>,
     /// Whether each queue is there, and the order of its calls explains all that happened to it and leaves what it
     /// holds.
-    pub ok: bool,
+    pub(crate) ok: bool,
 }
 
 /// Notes which queues a broker has, if it is ready.
@@ -160,7 +161,7 @@ fn found(alloc: Global, player: &Player, known: &Places, number: u64) -> Result<
 
 /// A new broker, whose queues will have as many clients and records as this line says, makes these acts. Then the
 /// environment keeps the words that it is to keep at this point, everything stops, and recovery goes on to its end.
-pub fn crash(
+pub(crate) fn crash(
     alloc: Global,
     broker: &BrokerLine,
     acts: &[Statement],

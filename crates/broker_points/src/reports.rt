@@ -6,9 +6,9 @@ ghost use Rattle.broker_lines.specs.Grammar.{counts_by, IsServedBroker};
 ghost use Rattle.broker_points.specs.Run.{count_text, IsReport, IsReportOf};
 ghost use Rattle.broker_points.specs.Sweep.{report_on, text_of};
 
+use crate::acts::accepted_acts;
 use crate::point::Point;
 use crate::sweep::{Schedule, all_points};
-use broker_acts::accepted_acts;
 use broker_lines::{BrokerLine, Statement};
 use broker_script::{Player, Script};
 use explore::{Evictions, Watch};
@@ -92,7 +92,7 @@ fn report_of<R: Threads + Sync, W: Watch>(
 /// What a crash of the whole broker at each point of a script comes to, as text: a line for each point, before the
 /// first act that is accepted and after each, and one that counts them. Points are made in several threads. A script
 /// without a broker has none, and no text. It is refused for want of memory alone (NoMemory).
-pub fn report<R: Threads + Sync, W: Watch>(
+pub(crate) fn report<R: Threads + Sync, W: Watch>(
     rt: &R,
     alloc: Global,
     script: &Script,

@@ -125,9 +125,6 @@ pub record AllLead (start : Played) (all : List Statement) (now : Played) (left 
     : Type 0 where
   pub on : (rest : List Printed) → FollowsAll now left rest → FollowsAll start all (lines ++ rest)
 
-pub all_start : (start : Played) (all : List Statement) → AllLead start all start all []
-all_start start all = record { on = λ rest follows. follows }
-
 pub all_more : (start now next : Played) (all left : List Statement) (statement : Statement) (lines given : List Printed)
     → FollowsLine now statement given next → AllLead start all now (statement ∷ left) lines
     → AllLead start all next left (lines ++ given)

@@ -16,7 +16,7 @@ use Rattle.interleave.specs.State.{State, after_bump_load, after_call_began, aft
 use Rattle.named.specs.Acting.{IsActAt, IsSameBeside}
 use Rattle.named.specs.Brokers.{Brokered, IsWell, admission, quiet, world_after, world_at}
 use Rattle.named.specs.Slots.{acted, answered}
-use Rattle.named.specs.Stopping.{IsQueueOn, IsQueueRecovered, IsRecoveryStep, IsSameButRoom}
+use Rattle.named.specs.Stopping.{IsQueueOn, IsQueueRecovered, IsRecoveryStep}
 use Rattle.named.specs.declared.recovery.BrokerRecovery.{BrokerRecovery}
 use Rattle.named.specs.declared.recovery.BrokerRecovery.TheVariants.{ReadDirectory, RecoverQueue}
 use Rattle.session.specs.Keeping.{IsKeptNow}
@@ -56,18 +56,6 @@ still_kept old new slot client last now same at other = go (cases_eq at slot) (c
         ∙ sym (ap (λ (n : ℕ). kept_in old n other) here ∙ ap (λ (n : ℕ). kept_in old slot n) it)
     go (inl here) (inr apart) = now.others at other (inr apart)
     go (inr apart) it = now.others at other (inl apart)
-
--- but for the room nothing changed
-pub roomier : (old new : Brokered) → IsSameButRoom old new → IsAsBefore old new
-roomier old new by = record {
-  counts = ap (λ (b : Brokered). b.counts) by.same;
-  cached = ap (λ (b : Brokered). b.words.cached) by.same;
-  kept = ap (λ (b : Brokered). b.words.kept) by.same;
-  worlds = λ slot. ap quiet (by.worlds slot);
-  directory = ap (λ (b : Brokered). b.directory) by.same;
-  creation = ap (λ (b : Brokered). b.creation) by.same;
-  recovery = ap (λ (b : Brokered). b.recovery) by.same;
-}
 
 -- where the worlds, and the words of the directory, are as they were, each word is
 all_as_before : (old new : Brokered) → IsWell old → IsWell new → new.counts ≡ old.counts
@@ -224,17 +212,6 @@ pub recovery_put_off : (p inside : Played) → inside ≡ p → (s : Sessioned) 
 recovery_put_off p inside is s refusal well well_now memory step kept =
     put_off p inside is s (recovery_refused inside.broker s.broker well well_now
     (subst (λ (e : Refusal). IsRecoveryStep inside.broker s.broker (Err e) inside.broker.recovery) memory step))
-    (λ at other. ap (λ k. kept_in k at other) kept)
-
-pub crash_put_off : (p inside : Played) → inside ≡ p → (s : Sessioned) → IsSameButRoom inside.broker s.broker
-    → s.kept ≡ inside.kept → IsPutOff p (record inside { broker = s.broker; kept = s.kept })
-crash_put_off p inside is s by kept =
-    put_off p inside is s (roomier inside.broker s.broker by) (λ at other. ap (λ k. kept_in k at other) kept)
-
-pub same_put_off : (p inside : Played) → inside ≡ p → (s : Sessioned) → s.broker ≡ inside.broker → s.kept ≡ inside.kept
-    → IsPutOff p (record inside { broker = s.broker; kept = s.kept })
-same_put_off p inside is s same kept =
-    put_off p inside is s (subst (IsAsBefore inside.broker) (sym same) (as_before inside.broker))
     (λ at other. ap (λ k. kept_in k at other) kept)
 
 -- what is left of a line that gave nothing, where nothing changed

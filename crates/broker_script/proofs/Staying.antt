@@ -14,8 +14,8 @@ use Rattle.directory.specs.Directory.{Directory, HasQueue}
 use Rattle.directory.specs.declared.limits.TheConstants.{CREATION_STEPS}
 use Rattle.directory.specs.declared.queue.Queue.{Queue}
 use Rattle.grammar.specs.declared.commands.Command.{Command}
-use Rattle.grammar.specs.declared.commands.Command.TheVariants.{Enq, NumberedEnq, Deq, NumberedDeq, Step, End, Evict}
-use Rattle.grammar.specs.declared.commands.Command.TheVariants.{Crash, Recover, RecoverBy, Content, Order, Again}
+use Rattle.grammar.specs.declared.commands.Command.TheVariants.{Evict}
+use Rattle.grammar.specs.declared.commands.Command.TheVariants.{Crash, Recover, RecoverBy}
 use Rattle.interleave.specs.Calls.{is_no_memory}
 use Rattle.interleave.specs.State.{State, recover_result, recover_result_with}
 use Rattle.recover.specs.declared.recovery.Recovery.{Recovery}
@@ -102,10 +102,6 @@ refused_at old new refusal well other (Some (RecoverQueue slot)) is step =
 pub refused_ready : (old new : Brokered) (refusal : Refusal) → IsWell old → refusal ≢ NoMemory
     → IsRecoveryStep old new (Err refusal) old.recovery → old.recovery ≡ None
 refused_ready old new refusal well other step = refused_at old new refusal well other old.recovery refl step
-
--- what is settled stays so where nothing changes
-pub session_stays : (s : Sessioned) → SessionGoesOn s s
-session_stays s = record { clients = λ slot client its. its; answers = λ slot client number reply its was. was }
 
 -- and over one act and another
 pub session_goes_further : (old now new : Sessioned) → SessionGoesOn old now → SessionGoesOn now new → SessionGoesOn old new
@@ -204,15 +200,7 @@ whole_stay old Crash lines new by =
     same_stay old.broker.directory new.broker.directory (ap (λ (b : Brokered). b.directory) by.stopped.same)
 whole_stay old Recover lines new by = recovered by
 whole_stay old (RecoverBy most) lines new by = recovered_by by
-whole_stay old (Enq client value) lines new by = broker_same old new by.1
-whole_stay old (NumberedEnq client number value) lines new by = broker_same old new by.1
-whole_stay old (Deq client) lines new by = broker_same old new by.1
-whole_stay old (NumberedDeq client number) lines new by = broker_same old new by.1
-whole_stay old (Step client most) lines new by = broker_same old new by.1
-whole_stay old (End client) lines new by = broker_same old new by.1
-whole_stay old Content lines new by = broker_same old new by.1
-whole_stay old Order lines new by = broker_same old new by.1
-whole_stay old Again lines new by = broker_same old new by.1
+whole_stay old command lines new by = broker_same old new by.1
 
 queues_stay : (old : Played) (statement : Statement) (lines : List Printed) (new : Played)
     → FollowsLine old statement lines new → keeps_queues statement ≡ true

@@ -1,5 +1,5 @@
 -- What a client's call is answered, between two marks.
-use Rattle.std.proofs.Common.{◌≡◌, ◌<◌, ◌≤◌, ◌∙◌, true, ℕ, List, Option, None, Some, Result, Err, Ok, ap, inl, inr, refl, subst, sym}
+use Rattle.std.proofs.Common.{◌≡◌, ◌<◌, ◌≤◌, true, ℕ, List, Option, None, Some, Result, Ok, ap, inl, inr, refl, subst, sym}
 use Rattle.std.specs.Prelude.{◌↔◌, IfSome, IsNone, OnOk}
 use Rattle.std.proofs.lemmas.Bool.{cases_lt}
 use Rattle.words.specs.declared.call.Client.{Client}

@@ -1,19 +1,16 @@
 -- What a call is answered, after one that was left open.
-use Rattle.std.proofs.Common.{◌≡◌, true, ℕ, List, Option, None, Some, Result, Ok, Err, refl, sym, subst, inl, inr}
+use Rattle.std.proofs.Common.{◌≡◌, true, ℕ, List, Option, Some, refl, sym, subst, inl, inr}
 use Rattle.words.specs.declared.refusal.Refusal.{Refusal}
-use Rattle.words.specs.declared.refusal.Refusal.TheVariants.{Busy, NoMemory, NoQueue, NoRoom, NotReady}
-use Rattle.arena.specs.declared.broker.SlotId.{SlotId}
+use Rattle.words.specs.declared.refusal.Refusal.TheVariants.{NoRoom}
 use Rattle.words.specs.declared.call.Client.{Client}
 use Rattle.words.specs.declared.call.Reply.{Reply as AnyReply}
 use Rattle.wire.specs.declared.answer.Answer.{Answer as WireAnswer}
 use Rattle.wire.specs.declared.answer.Answer.TheVariants.{Interrupted as interrupted_answer, Refused, Reply, Unfinished as unfinished_answer}
-use Rattle.directory.specs.Directory.{Directory}
-use Rattle.named.specs.Brokers.{Brokered}
 use Rattle.session.specs.Sessions.{Sessioned}
 use Rattle.workers.specs.Marks.{IsMarkedBy}
-use Rattle.workers.specs.Refusals.{IfNotMade, IsSettledAnswer, IsWhyNoUsage, IsWhyNotRenewed, IsWhyRefused, WasSettled}
+use Rattle.workers.specs.Refusals.{IfNotMade, IsSettledAnswer, WasSettled}
 use Rattle.workers.specs.Moments.{GoesOnLater}
-use Rattle.workers.specs.Seen.{HadCalled, IfMade, IsCallRefused, IsListing}
+use Rattle.workers.specs.Seen.{HadCalled, IfMade, IsCallRefused}
 use Rattle.workers.specs.declared.entry.Answer.{Answer}
 use Rattle.workers.specs.declared.entry.Answer.TheVariants.{Interrupted as seat_interrupted, Refused as seat_refused}
 use Rattle.workers.specs.declared.entry.Answer.TheVariants.{Reply as seat_reply, Unfinished as seat_unfinished}
@@ -22,27 +19,10 @@ use Rattle.workers.specs.declared.entry.End.TheVariants.{Answered, Interrupted, 
 use Rattle.workers.specs.declared.entry.Entry.{Entry}
 use Rattle.workers.specs.Answers.{HasOneMore, Remembers, entry_of}
 use Rattle.workers.proofs.Facts.{between_since}
-use Rattle.desk.specs.Answering.{IsCallAnswer, IsCallMade, IsLastCall, IsRefusedIn, IsWhyNameless, IsWhyUnrenewed}
-use Rattle.desk.specs.Calls.{AnswersCall, IsOfNoName, IsSettled, IsSettledOnWire, answer_on_wire, call_in, why_nameless}
+use Rattle.desk.specs.Answering.{IsCallAnswer, IsCallMade, IsLastCall, IsRefusedIn, IsWhyUnrenewed}
+use Rattle.desk.specs.Calls.{IsSettledOnWire, answer_on_wire, call_in}
 use Rattle.desk.specs.Requests.{is_no_room}
 use Rattle.desk.specs.declared.calls.Asked.{Asked}
-
--- after it the call is refused where its queue has no name, and the seat remembers no call more
-pub refused_after : (first : Sessioned) (old now : List Entry) (asked : Asked) (refusal : Refusal) → IsSettled old now
-    → asked.queue ≡ None → IsOfNoName refusal → AnswersCall first old asked (Refused refusal) now
-refused_after first old now asked refusal settled none why =
-    inr (inl (record { is_settled = settled; nameless = none; refusal = refusal; why = why; is = refl }))
-
--- why a queue of no name is not found, as its list was answered
-pub why_listed : (b : Brokered) (listed : Result Directory Refusal) → IsListing b listed
-    → IsWhyNameless b (why_nameless listed)
-why_listed b (Ok places) is = is.0
-why_listed b (Err refusal) is = subst (IsWhyNameless b) (sym is.0) is.1
-
-pub of_no_name : (b : Brokered) (refusal : Refusal) → IsWhyNameless b refusal → IsOfNoName refusal
-of_no_name b NoQueue why = inr refl
-of_no_name b NotReady why = inl refl
-of_no_name b _ why = absurd why
 
 -- the call that its list has more
 last_call : (old new : List Entry) (asked : Asked) (name : List ℕ) (end : End) → asked.queue ≡ Some name
@@ -110,22 +90,6 @@ room_refused first before s client asked (Refused NoRoom) refusal (inr (inr (inl
 room_refused first before s client asked (Refused NoRoom) refusal (inr (inr (inr room))) none why = inr (inr (inr (why, room.1)))
 room_refused first before s client asked _ refusal is none why = absurd (cc none)
 
--- a call that is made in the queue of its name
-pub remembered : (first : Sessioned) (old settled new : List Entry) (asked : Asked) (name : List ℕ) (given : Answer)
-    → IsSettled old settled → asked.queue ≡ Some name → Remembers settled (call_in name asked) given new
-    → IfNotMade given (IsWhyRefused first settled (call_in name asked))
-    → AnswersCall first old asked (answer_on_wire given) new
-remembered first old settled new asked name given is_settled name_is remembers why = inr (inr (record {
-  settled = settled;
-  is_settled = is_settled;
-  name = name;
-  name_is = name_is;
-  given = given;
-  is = refl;
-  remembers = remembers;
-  why = why;
-}))
-
 -- what a seat answers to a settled number
 pub settled_on_wire : (reply : AnyReply) (given : Answer) → IsSettledAnswer reply given
     → IsSettledOnWire reply (answer_on_wire given)
@@ -142,20 +106,3 @@ settled_for first client other asked name found reply same is there was =
     let one : name ≡ found = cc (is, there) in
     subst (λ (c : Client). WasSettled first c (call_in found asked) reply) (sym same)
     (subst (λ (n : List ℕ). WasSettled first client (call_in n asked) reply) one was)
-
--- why a queue is not renewed, as far as that is so for good
-pub unrenewed : (first : Sessioned) (slot : SlotId) (refusal : Refusal) → IsWhyNotRenewed first slot refusal
-    → IsWhyUnrenewed refusal
-unrenewed first slot NotReady why = tt
-unrenewed first slot NoQueue why = tt
-unrenewed first slot Busy why = tt
-unrenewed first slot NoRoom why = tt
-unrenewed first slot NoMemory why = tt
-unrenewed first slot _ why = absurd why
-
--- or it is not told what it holds
-pub unrenewed_unseen : (first : Sessioned) (slot : SlotId) (refusal : Refusal) → IsWhyNoUsage first slot refusal
-    → IsWhyUnrenewed refusal
-unrenewed_unseen first slot NoQueue why = tt
-unrenewed_unseen first slot NoMemory why = tt
-unrenewed_unseen first slot _ why = absurd why

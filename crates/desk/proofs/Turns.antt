@@ -6,7 +6,7 @@ use Rattle.wire.specs.declared.answer.Answer.{Answer}
 use Rattle.wire.specs.declared.request.Request.{Request}
 use Rattle.workers.specs.Moments.{GoesOnLater}
 use Rattle.chronicle.specs.Chronicled.{Chronicled, entries}
-use Rattle.desk.specs.Answering.{AreAnsweredInTurn, IsAnsweredAtMark, IsServedAtMark, IsServedInTurn}
+use Rattle.desk.specs.Answering.{IsAnsweredAtMark, IsServedAtMark, IsServedInTurn}
 use Rattle.desk.specs.Answering.AreAnsweredInTurn.{answered, marked as marked_later, nothing}
 use Rattle.desk.specs.Serving.{Desked, IsDesked}
 

@@ -1,6 +1,5 @@
 -- Which answers a request may have.
-use Rattle.std.specs.Prelude.{◌≤◌, ℕ, Bool, true, false, None, Some, Result, Ok, Err, ⊤}
-use Rattle.words.specs.declared.refusal.Refusal.{Refusal}
+use Rattle.std.specs.Prelude.{◌≤◌, ℕ, Bool, true, false, None, Some}
 use Rattle.words.specs.declared.refusal.Refusal.TheVariants.{AlreadyReady, BadName, Busy, NoClient, NoMemory, NoQueue, NoRoom, NotReady}
 use Rattle.wire.specs.declared.answer.Answer.{Answer}
 use Rattle.wire.specs.declared.answer.Answer.TheVariants.{Crashed, Created, Interrupted, Queues, Ready, Refused, Reply, Stopping, Told as told_answer, Unfinished}
@@ -8,19 +7,7 @@ use Rattle.wire.specs.declared.request.Request.{Request}
 use Rattle.wire.specs.declared.request.Request.TheVariants.{Create, Crash, List as list_request, Put, Recover, Stop, Take, Told}
 use Rattle.workers.specs.Refusals.{is_call_refusal, is_creation_refusal, is_told_refusal}
 
--- the answer where it was done, else the refusal
-abbrev pub answer_where_done : Result ⊤ Refusal → Answer → Answer
-answer_where_done (Ok done) answer = answer
-answer_where_done (Err refusal) answer = Refused refusal
-
--- whether a seat may answer so a put or a take in a queue of no name
-abbrev pub is_nameless_refusal : Answer → Bool
-is_nameless_refusal (Refused Busy) = true
-is_nameless_refusal (Refused NotReady) = true
-is_nameless_refusal (Refused NoQueue) = true
-is_nameless_refusal _ = false
-
--- whether a desk may, which looks for the client's seat before
+-- whether a desk, which looks for the client's seat first, may answer so a put or a take in a queue of no name
 abbrev pub is_nameless_call_answer : Answer → Bool
 is_nameless_call_answer (Refused NoClient) = true
 is_nameless_call_answer (Refused Busy) = true

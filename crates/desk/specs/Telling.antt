@@ -1,5 +1,5 @@
 -- Replies that the lists of seats have, at sessions that were marked.
-use Rattle.std.specs.Prelude.{◌≡◌, ℕ, List, None, Option, Some, slice_get}
+use Rattle.std.specs.Prelude.{◌≡◌, ℕ, List, Option, Some, slice_get}
 use Rattle.words.specs.declared.call.Client.{Client}
 use Rattle.words.specs.declared.call.Reply.{Reply as AnyReply}
 use Rattle.session.specs.Sessions.{Sessioned}

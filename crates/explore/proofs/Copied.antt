@@ -37,7 +37,7 @@ use Rattle.interleave.proofs.Facts.{recovery_next, recovery_reads, some_left, to
 use Rattle.interleave.specs.Ranges.{KeptFit}
 use Rattle.interleave.specs.Values.{value_of_place}
 use Rattle.playing.specs.Transcript.{told_at}
-use Rattle.attempts.proofs.Facts.{after_acts_shape}
+use Rattle.explore.proofs.Shapes.{after_acts_shape}
 use Rattle.explore.specs.Points.{recovered, recovery_of}
 use Rattle.explore.proofs.Sizes.{after_acts_size}
 
@@ -120,9 +120,6 @@ begins w ws lent holds cached kept = record {
 
 -- what the next step asks for
 module _ (v : State) (r : Recovery) (ws : Words) (lent : Lent) (follows : Follows v false r ws lent) where
-  pub has_room : size_of v.shape ≤ length ws.cached
-  has_room = subst (λ (l : List ℕ). size_of v.shape ≤ length l) (sym follows.words.0) follows.holds.safe.words.room
-
   pub is_point : IsPoint v.shape r.at
   is_point = recovery_point (machine v) (from_invariant _ follows.holds.inv) r follows.recovery
 
@@ -132,9 +129,6 @@ module _ (v : State) (r : Recovery) (ws : Words) (lent : Lent) (follows : Follow
       let a = access_of s.kind r.at in
       subst (λ (l : List ℕ). IsReadInRange s a (slice_index l (word_at s (place_of a)))) (sym follows.words.0)
       (recovery_reads v r follows.holds follows.recovery)
-
-  pub is_asked : IsAskedFor v.shape (access_of v.shape.kind r.at) lent.request
-  is_asked = subst (λ (o : Option Recovery). IfRecoveryAsked v.shape o lent.request) follows.recovery follows.asked.of_recovery
 
 -- a step of both
 module _ (v : State) (r next : Recovery) (ready : Bool) (ws : Words) (lent : Lent) (follows : Follows v false r ws lent)
@@ -255,16 +249,6 @@ stays_ready (suc n) v none =
     let more : taken_of (after_recover false v) (replicate n Recover) ≡ 0 =
     ap (λ (u : State). taken_of u (replicate n Recover)) same ∙ rest.1 in
     (ap (λ (u : State). after_acts u (replicate n Recover)) same ∙ rest.0, omega (arith, first, more))
-
--- and when all steps were made, it is
-pub must_be_ready : (c : State) (most : ℕ) (ready : Bool) (r : Recovery) (ws : Words) (lent : Lent)
-    → Runs c most most ready r ws lent → ready ≡ true
-must_be_ready c most true r ws lent runs = refl
-must_be_ready c most false r ws lent runs =
-    let down : is_down runs.v ≡ true = ap (λ (o : Option Recovery). is_some o) runs.follows.recovery in
-    let one = some_left runs.v down in
-    let none = runs.few refl in
-    absurd (omega (arith, one, none))
 
 -- the copy has as many words as before
 pub runs_size : (c : State) (most n : ℕ) (ready : Bool) (r : Recovery) (ws : Words) (lent : Lent)

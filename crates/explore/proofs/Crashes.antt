@@ -9,7 +9,7 @@ use Rattle.explore.specs.Points.{crashed_world, evicted_words, found_in, found_b
 use Rattle.explore.specs.Points.{found_after}
 use Rattle.explore.specs.declared.evictions.Evictions.{Evictions}
 use Rattle.explore.specs.declared.evictions.Evictions.TheVariants.{None as no_word}
-use Rattle.attempts.proofs.Facts.{after_acts_shape}
+use Rattle.explore.proofs.Shapes.{after_acts_shape}
 
 pub evictions_of : Shape → Evictions → ℕ → List (Act ℕ)
 evictions_of s evictions point = map Evict (evicted_words evictions (size_of s) point)

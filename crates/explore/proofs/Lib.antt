@@ -6,4 +6,8 @@ mod Sizes
 mod Copied
 mod Sweeps
 mod Numbers
+mod Shapes
+mod InOrder
+mod Attempted
+mod StoppedCalls
 pub mod Facts

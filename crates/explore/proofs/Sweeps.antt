@@ -15,7 +15,7 @@ use Rattle.arena.specs.Shape.{Shape}
 use Rattle.protocol.specs.declared.acts.Act.{Act}
 use Rattle.interleave.specs.State.{after_acts, taken_of}
 use Rattle.grammar.specs.Grammar.{shape_by}
-use Rattle.attempts.specs.Acts.{acts_of}
+use Rattle.explore.specs.Acts.{acts_of}
 use Rattle.explore.specs.Pieces.{piece_range}
 use Rattle.explore.specs.Points.{Found, crashed_world, first_of, found_of, found_at, part_of, points_on, points_of, recovery_of}
 use Rattle.grammar.specs.declared.commands.Command.{Command}

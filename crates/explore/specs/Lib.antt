@@ -1,2 +1,4 @@
 pub mod Points
 pub mod Pieces
+pub mod Acts
+pub mod Stopped

@@ -15,7 +15,7 @@ use Rattle.protocol.specs.declared.acts.Act.TheVariants.{Evict, Recover}
 use Rattle.interleave.specs.State.{State, new_world, after_acts, taken_of, after_crash, after_stop, kept_content, most_to_ready}
 use Rattle.grammar.specs.Grammar.{shape_by}
 use Rattle.grammar.specs.Scripted.{Scripted}
-use Rattle.attempts.specs.Acts.{acts_of}
+use Rattle.explore.specs.Acts.{acts_of}
 use Rattle.playing.specs.Transcript.{told_at}
 use Rattle.grammar.specs.declared.commands.Command.{Command}
 use Rattle.grammar.specs.declared.commands.QueueLine.{QueueLine}

@@ -8,7 +8,7 @@ ghost use Rattle.interleave.specs.Queue.{told_in};
 ghost use Rattle.interleave.specs.State.{after_stop, taken_of};
 ghost use Rattle.explore.specs.Points.{events_once_ready, recovered, recovery_of};
 
-use attempts::most_to_ready;
+use crate::attempts::most_to_ready;
 use events::copied;
 use interleave::World;
 use persist::{EvictableWords, KeptWords, Memory, WordMemory};

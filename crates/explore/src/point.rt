@@ -6,11 +6,11 @@ ghost use Rattle.interleave.specs.State.{new_world};
 ghost use Rattle.explore.specs.Points.{found_of, found_in, found_after};
 ghost use Rattle.playing.specs.Transcript.{told_at};
 
+use crate::attempts::{attempt_all, most_to_ready, repeat};
 use crate::evictions::{Evictions, evict_words};
 use crate::spare::Spare;
 use arena::Layout;
-use attempts::{attempt_all, most_to_ready, repeat};
-use checker::check_content;
+use history::check_content;
 use interleave::{Act, World};
 use std::alloc::Global;
 use words::{Client, MAX_CLIENTS, Refusal, Reports, Told, Value};

@@ -11,8 +11,8 @@ ghost use Rattle.explore.specs.Points.{events_once_ready, found_of, found_stoppe
 use crate::copy::{Recovered, copy_kept, recover};
 use crate::point::Point;
 use arena::Layout;
-use checker::check_content;
 use events::{Event, Events, History, Order, Sequence, copied};
+use history::check_content;
 use interleave::{Core, World};
 use persist::Memory;
 use std::alloc::Global;

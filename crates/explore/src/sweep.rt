@@ -5,13 +5,13 @@ ghost use Rattle.std.specs.List.{flat_map};
 ghost use Rattle.explore.specs.Pieces.{found_in_piece, found_in_range};
 ghost use Rattle.explore.specs.Points.{all_found, found_on, wanted_of};
 
+use crate::acts::accepted_acts;
 use crate::evictions::Evictions;
-use crate::part::{WHOLE, Wanted};
+use crate::part::Wanted;
 use crate::point::Point;
 use crate::walk::{evicted_points, stopped_points};
-use crate::watch::{Unwatched, Watch};
+use crate::watch::Watch;
 use arena::Layout;
-use attempts::accepted_acts;
 use grammar::Script;
 use interleave::Act;
 use rayon::prelude::*;
@@ -171,28 +171,10 @@ fn report_of(points: Vec<Point>) -> Report
     Report { points, bad }
 }
 
-/// What a crash at each point of a script comes to: before its first act that is accepted, and after each. For each the
-/// environment keeps the words that are to be evicted, everything stops in a world that made the acts up to there, and
-/// recovery goes on to its end. Points are made in several threads. A script without a queue has none. It is refused
-/// for want of memory alone (NoMemory).
-pub fn points<R: Threads + Sync>(
-    rt: &R,
-    alloc: Global,
-    script: &Script,
-    evictions: Evictions,
-) -> Result<Report, Refusal>
-    ensures points { IfOk result (λ report. all_found report.points.items ≡ found_on script.now evictions) }
-    ensures bad { IfOk result (λ report. report.bad ≡ 0) }
-    ensures errors { IfErr result (λ e. e ≡ Refusal.NoMemory) }
-{
-    let wanted = Wanted {
-        evictions,
-        part: WHOLE,
-    };
-    watched_points(rt, alloc, script, wanted, &mut Unwatched)
-}
-
-/// The same of a part of the points, and `watch` is told how many are made. A part past the last point has none.
+/// What a crash at each wanted point of a script comes to: before its first act that is accepted, and after each. For
+/// each the environment keeps the words that are to be evicted, everything stops in a world that made the acts up to
+/// there, and recovery goes on to its end. Points are made in several threads, and `watch` is told how many. A script
+/// without a queue has none, and so has a part past the last point. It is refused for want of memory alone (NoMemory).
 pub fn watched_points<R: Threads + Sync, W: Watch>(
     rt: &R,
     alloc: Global,

@@ -6,12 +6,12 @@ ghost use Rattle.interleave.specs.Holds.{Holds};
 ghost use Rattle.interleave.specs.State.{new_world};
 ghost use Rattle.explore.specs.Points.{all_found, found_between, found_stopped, found_unevicted, AddsFound, MakesNextAct};
 
+use crate::attempts::{attempt, attempt_all};
 use crate::evictions::Evictions;
 use crate::point::{Point, crash};
 use crate::spare::Spare;
 use crate::stop::{Probe, stop};
 use arena::Layout;
-use attempts::{attempt, attempt_all};
 use interleave::{Act, World};
 use playing::push;
 use std::alloc::Global;

@@ -25,12 +25,6 @@ reply_at_front [] (suc n) = refl
 reply_at_front (x ∷ xs) zero = refl
 reply_at_front (x ∷ xs) (suc n) = reply_at_front xs n
 
--- so for a queue and what was found at its front
-pub reply_by_front : (queue all : List Value) (taken : ℕ) (found : Option Value) → queue ≡ drop taken all
-    → found ≡ slice_get all taken → front_reply found ≡ reply_of queue Deq
-reply_by_front queue all taken found q f = ap front_reply f ∙ sym (reply_at_front all taken)
-    ∙ ap (λ (r : List Value). reply_of r Deq) (sym q)
-
 -- what is left after a call
 pub count_left : (queue all : List Value) (taken : ℕ) (call : Call) → queue ≡ drop taken all → taken ≤ length all
     → served queue call ≡ drop (taken + dequeue_count (reply_of queue call)) (all ++ values_of_call (Some call))

@@ -1,10 +1,9 @@
 -- The front of the queue, one entry on.
-use Rattle.std.proofs.Common.{ℕ, ◌≡◌, ◌<◌, ◌≤◌, ◌+◌, List, [], ◌∷◌, ◌++◌, Option, Some, None, get_or, length, take}
-use Rattle.std.proofs.Common.{drop, refl, ap, arith, sym, ◌∙◌, append-nil, length-take}
+use Rattle.std.proofs.Common.{ℕ, ◌≡◌, ◌<◌, ◌≤◌, ◌+◌, List, [], ◌++◌, Option, Some, None, get_or, length, take}
+use Rattle.std.proofs.Common.{refl, ap, arith, sym, ◌∙◌, length-take}
 use Rattle.std.specs.Prelude.{IfNone, option_to_list}
-use Rattle.std.proofs.lemmas.List.{drop_more, drop_all, get_or-take, take_more, drop-append-le}
+use Rattle.std.proofs.lemmas.List.{drop_more, drop_all, get_or-take}
 use Rattle.std.proofs.lemmas.Option.{slice_get-get_or}
-use Rattle.std.proofs.lemmas.List.Concat.{flat_map-append}
 use Rattle.words.specs.declared.call.Call.{Call}
 use Rattle.words.specs.declared.call.Call.TheVariants.{Deq}
 use Rattle.words.specs.declared.call.Reply.{Reply}
@@ -29,20 +28,6 @@ values_more events order from to d below within =
 pub values_none : (events : List Event) (order : List Entry) (to : ℕ) → values_between events order to to ≡ []
 values_none events order to = ap (values_of_order events)
     (drop_all to (take to order) (omega (arith, length-take to order)))
-
--- one entry more at the end
-pub put_last : (events : List Event) (order : List Entry) (from i : ℕ) (d : Entry) → from ≤ i
-    → i < length order
-    → values_between events order from (i + 1) ≡ values_between events order from i ++ values_of_call
-    (call_at events (get_or order i d).place)
-put_last events order from i d below within =
-    ap (λ (es : List Entry). values_of_order events (drop from es)) (take_more order i d within)
-    ∙ ap (values_of_order events) (drop-append-le from (take i order) (get_or order i d ∷ [])
-    (omega (arith, length-take i order)))
-    ∙ flat_map-append (λ (e : Entry). values_of_call (call_at events e.place)) (drop from (take i order))
-    (get_or order i d ∷ [])
-    ∙ ap (λ (vs : List Value). values_between events order from i ++ vs)
-    (append-nil (values_of_call (call_at events (get_or order i d).place)))
 
 -- what a dequeue answers by the front, and leaves
 pub reply_by_front : (queue rest : List Value) (front : Option Value) → queue ≡ option_to_list front ++ rest

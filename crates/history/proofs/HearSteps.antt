@@ -16,13 +16,13 @@ use Rattle.words.specs.declared.told.Told.{Told}
 use Rattle.words.specs.declared.told.Told.TheVariants.{None as told_none, Verdict as told_verdict, Row as told_row}
 use Rattle.events.specs.declared.event.Event.{Event}
 use Rattle.events.specs.declared.event.Entry.{Entry}
-use Rattle.events.specs.History.{ReadyAt, BeginsAt}
+use Rattle.events.specs.History.{BeginsAt}
 use Rattle.events.specs.Orders.{IsTakenAs, InOrder, IsNew}
 use Rattle.history.specs.Hearing.{IsOutcomeTaken, SaysTaken, SaysNotTaken, IsToldNotTakenIn, IsLastEntry}
-use Rattle.history.specs.Hearing.{IsSaidLast, IsProgress, IsProgressTo, HasNoCall, IsToldAt}
+use Rattle.history.specs.Hearing.{IsSaidLast, IsProgress, IsProgressTo, HasNoCall}
 use Rattle.history.specs.Hearing.{IsToldOfAll, BeginsSomeTold, IsLaterEntry, TellsSixteen}
 use Rattle.history.specs.Sweeps.{Ascends}
-use Rattle.events.specs.Telling.{BeginsTold, BeginsTaken, HasNoneTaken, IsOutcome, IsRow, Says, IsToldSome, IsToldBase}
+use Rattle.events.specs.Telling.{BeginsTold, BeginsTaken, HasNoneTaken, IsOutcome, IsRow, Says, IsToldSome}
 use Rattle.events.specs.Telling.{TellsAt}
 use Rattle.events.proofs.Facts.{in_order_from_taken, one_reply, taken_at, taken_from_in_order}
 
@@ -346,20 +346,6 @@ progress_later kind events order client q from n last progress =
       below = progress.below;
       first = progress.first;
     }
-
--- a client is told rightly where what it is told is right
-pub told_at_ready : (kind : Kind) (base : List Told) (events : List Event) (order : List Entry) (client : Client)
-    (q : ℕ) (tells : List Told) (told : Told)
-    → ReadyAt events q tells → slice_get tells client.0 ≡ Some told
-    → IsToldSome kind events order client q told ⊎ IsToldBase kind base events order client q told
-    → IsToldAt kind base events order client q
-told_at_ready kind base events order client q tells told at is right = record {
-  each = λ others other at_other is_other.
-      let same : tells ≡ others = cc (at, at_other) in
-      let one : told ≡ other = cc (is, is_other, ap (λ (ts : List Told). slice_get ts client.0) same) in
-      subst (λ (t : Told). IsToldSome kind events order client q t ⊎ IsToldBase kind base events order client q t)
-      one right;
-}
 
 -- all clients are told rightly where each is
 pub tells_from_clients : (kind : Kind) (base : List Told) (events : List Event) (order : List Entry)

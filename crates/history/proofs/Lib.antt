@@ -8,5 +8,4 @@ mod Ascending
 mod AnswerSteps
 mod HearSteps
 mod ServedInTurn
-mod PlainAnswers
 pub mod Facts

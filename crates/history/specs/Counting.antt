@@ -1,5 +1,5 @@
 -- What the replay on the plain queue is, by counting: what was put so far, without the first few.
-use Rattle.std.specs.Prelude.{ℕ, ◌≡◌, List, [], ◌∷◌, ◌++◌, drop, Option, Some, None}
+use Rattle.std.specs.Prelude.{ℕ, List, [], ◌∷◌, Option, Some, None}
 use Rattle.std.specs.List.{flat_map}
 use Rattle.words.specs.PlainQueue.{Value}
 use Rattle.words.specs.declared.call.Call.{Call}
@@ -8,7 +8,7 @@ use Rattle.words.specs.declared.call.Reply.{Reply}
 use Rattle.words.specs.declared.call.Reply.TheVariants.{Done, Got, Empty}
 use Rattle.events.specs.declared.event.Event.{Event}
 use Rattle.events.specs.declared.event.Entry.{Entry}
-use Rattle.events.specs.Replay.{call_at, queue_after}
+use Rattle.events.specs.Replay.{call_at}
 
 -- the values that a call puts into the queue
 abbrev pub values_of_call : Option Call → List Value
@@ -19,11 +19,6 @@ values_of_call None = []
 -- the values that these calls put into the queue
 abbrev pub values_of_order : List Event → List Entry → List Value
 values_of_order events order = flat_map (λ entry. values_of_call (call_at events entry.place)) order
-
--- after these entries the queue has what was ever in it, but for the first `taken` values
-abbrev pub HasAllButFirst : List Event → List Value → List Entry → ℕ → Type 0
-HasAllButFirst events base before taken =
-    queue_after events base before ≡ drop taken (base ++ values_of_order events before)
 
 -- how many values a reply takes out of the queue
 abbrev pub dequeue_count : Reply → ℕ

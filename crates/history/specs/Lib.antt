@@ -1,12 +1,3 @@
-pub use Rattle.events.specs.Sequence
-pub use Rattle.events.specs.Effects
-pub use Rattle.events.specs.History
-pub use Rattle.events.specs.Orders
-pub use Rattle.events.specs.Replay
-pub use Rattle.events.specs.Telling
-pub use Rattle.events.specs.Explains
-pub use Rattle.events.specs.Parts
-pub use Rattle.events.specs.Trace
 pub mod Plainly
 pub mod Counting
 pub mod Sweeps

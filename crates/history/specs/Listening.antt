@@ -1,18 +1,10 @@
 -- What holds of a client that listens to the Readys of a history.
 use Rattle.std.specs.Prelude.{ℕ, ◌⊎◌, List, Option}
 use Rattle.words.specs.declared.told.Told.{Told}
-use Rattle.events.specs.Telling.{HasNoneTaken, IsToldCall, IsToldSome, IsToldBase}
+use Rattle.events.specs.Telling.{IsToldSome, IsToldBase}
 use Rattle.history.specs.Hearing.{IsProgress, IsProgressTo, IsSaidLast, IsToldAt, IsToldOfAll}
 use Rattle.history.specs.declared.hearing.Progress.{Progress}
 use Rattle.history.specs.declared.telling.Listener.{Listener}
-
--- none of its calls from one place up to another is in the order
-abbrev pub TakesNone : Listener → ℕ → ℕ → Type 0
-TakesNone who from to = HasNoneTaken who.kind who.events.now.items who.entries.now who.client from to
-
--- a Ready at `ready` tells it this of its call at p
-abbrev pub HearsOfCall : Listener → ℕ → Told → ℕ → Type 0
-HearsOfCall who ready told p = IsToldCall who.kind who.events.now.items who.entries.now who.client ready told p
 
 -- this of one of its calls
 abbrev pub HearsOfSome : Listener → ℕ → Told → Type 0

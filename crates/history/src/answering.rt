@@ -103,7 +103,7 @@ fn is_answered_of(events: &Events, entries: &[Entry], client: Client) -> bool
 
 /// Whether each complete call is in the order with the reply that it returned, where the history may arise and the
 /// order names no call twice and keeps precedence.
-pub fn all_answered(events: &Events, entries: &[Entry]) -> bool
+pub(crate) fn all_answered(events: &Events, entries: &[Entry]) -> bool
     requires history { IsHistory events.now.items }
     requires once { EachIndex entries.now (λ i. IsNew entries.now i) }
     requires precedence { KeepsPrecedence events.now.items entries.now }

@@ -125,7 +125,7 @@ fn all_in_turn(events: &Events) -> bool
 }
 
 /// Whether the history may arise.
-pub fn arises(events: &Events) -> bool
+pub(crate) fn arises(events: &Events) -> bool
     ensures { IsTrue result ↔ IsHistory events.now.items }
 {
     if !has_clients(events) {

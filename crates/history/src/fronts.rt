@@ -95,7 +95,7 @@ fn is_right_next(
 }
 
 /// Whether the replay gives every reply.
-pub fn replay_is_right(events: &Events, base: &[Value], entries: &[Entry]) -> bool
+pub(crate) fn replay_is_right(events: &Events, base: &[Value], entries: &[Entry]) -> bool
     ensures { IsTrue result ↔ Replays events.now.items base.now entries.now }
 {
     let mut fronts = Fronts { base: 0, entry: 0 };

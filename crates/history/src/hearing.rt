@@ -345,7 +345,7 @@ fn is_told_of_all(who: &Listener, base: &Reports) -> bool
 }
 
 /// Whether each Ready tells each client rightly.
-pub fn all_told(kind: Kind, base: &Reports, events: &Events, entries: &[Entry]) -> bool
+pub(crate) fn all_told(kind: Kind, base: &Reports, events: &Events, entries: &[Entry]) -> bool
     requires calls { All (λ entry. entry.place < length events.now.items) entries.now }
     requires history { IsHistory events.now.items }
     requires once { EachIndex entries.now (λ i. IsNew entries.now i) }

@@ -53,7 +53,7 @@ fn ascends(events: &Events, entries: &[Entry], client: Client) -> bool
 
 /// Whether no call is named twice, in the order of a history that may arise which keeps precedence: then each client's
 /// calls stand in ascending places.
-pub fn names_once(events: &Events, entries: &[Entry]) -> bool
+pub(crate) fn names_once(events: &Events, entries: &[Entry]) -> bool
     requires calls { All (λ entry. entry.place < length events.now.items) entries.now }
     requires names { All (λ entry. IsSome (call_at events.now.items entry.place)) entries.now }
     requires history { IsHistory events.now.items }

@@ -29,7 +29,7 @@ fn precedes_none(events: &Events, entries: &[Entry], i: usize, greatest: usize) 
 }
 
 /// Whether calls stand in the order before those that they precede.
-pub fn precedence_is_kept(events: &Events, entries: &[Entry]) -> bool
+pub(crate) fn precedence_is_kept(events: &Events, entries: &[Entry]) -> bool
     requires { All (λ entry. entry.place < length events.now.items) entries.now }
     ensures { IsTrue result ↔ KeepsPrecedence events.now.items entries.now }
 {

@@ -2,3 +2,4 @@
 mod Written
 mod Printing
 mod Parts
+mod Held

@@ -24,12 +24,6 @@ transcript_begins None old new script printed says transcript sent = tt
 transcript_begins (Some text) old new script printed says transcript sent =
     (printed, record { script = script; says = says; transcript = transcript }, sent)
 
-pub transcript_prints : (input old new : Option (List ℕ)) (script : Scripted) (printed : List ℕ) → SaysInput input script
-    → IsTranscript script.queue script.commands printed → Appends old new printed → PrintsTranscript input old new
-transcript_prints None old new script printed says transcript sent = tt
-transcript_prints (Some text) old new script printed says transcript sent =
-    (printed, record { script = script; says = says; transcript = transcript }, sent)
-
 -- what holds at a failure
 pub when_failed : {A E P : Type 0} (r : Result A E) (e : E) → IsErrOf r e → OnErr r P → P
 when_failed (Ok x) e is holds = absurd (cc (is))

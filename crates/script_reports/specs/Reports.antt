@@ -7,8 +7,8 @@ use Rattle.words.specs.declared.told.Told.{Told}
 use Rattle.grammar.specs.Grammar.{shape_by}
 use Rattle.explore.specs.Points.{Found, all_found, found_of, part_of, points_on}
 use Rattle.playing.specs.Prints.{values_text}
-use Rattle.attempts.specs.Stopped.{alone_on, alone_text}
-use Rattle.attempts.specs.declared.answers.Alone.{Alone}
+use Rattle.explore.specs.Stopped.{alone_on, alone_text}
+use Rattle.explore.specs.declared.answers.Alone.{Alone}
 use Rattle.grammar.specs.declared.commands.Command.{Command}
 use Rattle.grammar.specs.declared.commands.QueueLine.{QueueLine}
 use Rattle.explore.specs.declared.part.Part.{Part}

@@ -2,9 +2,16 @@
 //! to a writer, with a page or without.
 #![tactic(auto)]
 
+mod drawing;
+mod frames;
 mod laws;
+mod pictures;
 mod reports;
 mod runs;
+mod stage;
+mod stories;
+mod texts;
+mod watched;
 
 pub use laws::parts_make_the_whole;
 pub use runs::{run, run_alone, run_page, run_points, run_story};

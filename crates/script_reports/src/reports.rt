@@ -5,10 +5,9 @@ ghost use Rattle.words.specs.declared.limits.TheConstants.{MAX_CLIENTS};
 ghost use Rattle.playing.specs.Prints.{values_text};
 ghost use Rattle.script_reports.specs.Reports.{calls_text, content_text, end_text, steps_text, told_all_text, line_of, points_text, stopped_text, text_of_report, most_steps as most_steps_of};
 
-use attempts::{Alone, alone};
-use explore::{Point, Report, Wanted, Watch, watched_points};
+use crate::pictures::page;
+use explore::{Alone, Point, Report, Wanted, Watch, alone, watched_points};
 use grammar::Script;
-use script_pages::page;
 use std::alloc::Global;
 use std::fmt::Write;
 use std::thread::Threads;

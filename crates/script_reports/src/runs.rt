@@ -6,10 +6,10 @@ ghost use Rattle.script_reports.specs.Runs.{BeginsAlone, BeginsPoints, BeginsRun
 ghost use Rattle.playing.specs.Run.{IsRunRefusal, NamesBadLine, OnWriteFailed, WritesNothing};
 
 use crate::reports::{pictured_points, points_text, stopped_text};
+use crate::stories::story;
 use devices::{MAX_FAILURES, Reader, Writer};
 use explore::{Wanted, Watch};
 use playing::{print, read_script, transcript};
-use script_pages::story;
 use std::alloc::Global;
 use std::thread::Threads;
 use words::Refusal;

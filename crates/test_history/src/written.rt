@@ -1,8 +1,7 @@
 //! Histories written out, with the orders that explain them and some that do not: what the definition means.
 
 use crate::rows::{Case, HISTORIES, Left, Placed, REPLAYED, REPLAYS, Seen, Telling};
-use checker::{check, replay};
-use history::{Entry, Event, Events, History, Order, Sequence, check_plainly};
+use history::{Entry, Event, Events, History, Order, Sequence, check, replay};
 use std::alloc::{AllocError, Global};
 use std::test::Fail;
 use test_support::{are_items, item};
@@ -91,7 +90,7 @@ fn order(alloc: Global, placed: &[Placed]) -> Result<Order, AllocError> {
     })
 }
 
-/// Whether both checkers answer this of each order.
+/// Whether the checker answers this of each order.
 fn are_all(
     alloc: Global,
     history: &History,
@@ -101,7 +100,7 @@ fn are_all(
     let mut all = true;
     for placed in orders {
         let order = order(alloc, placed)?;
-        all &= check(history, &order) == wanted && check_plainly(history, &order) == wanted;
+        all &= check(history, &order) == wanted;
     }
     Ok(all)
 }

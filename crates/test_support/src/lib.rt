@@ -14,9 +14,8 @@ pub mod steps;
 pub mod told;
 
 use arena::{SLOTS, SlotId};
-use checker::check_content;
 pub use draws::below;
-use history::{Event, Events};
+use history::{Event, Events, check_content};
 pub use items::{Said, Wish, are_items, item, number_of};
 use named::Broker;
 use std::alloc::Global;

@@ -7,9 +7,9 @@ use Rattle.named.specs.Promises.{AreExplained}
 use Rattle.explore.specs.Points.{evicted_words}
 use Rattle.broker_script.specs.Play.{Played, new_played, session_of}
 use Rattle.broker_points.specs.Points.{eviction, evictions_at, IsPointAfter, Leads}
-use Rattle.broker_checks.specs.Reports.{line_of_point, point_text}
+use Rattle.broker_points.specs.Reports.{line_of_point, point_text}
 use Rattle.broker_points.specs.declared.point.Point.{Point}
-use Rattle.broker_checks.proofs.Facts.{of_ok}
+use Rattle.broker_points.proofs.Explaining.{of_ok}
 use Rattle.broker_points.proofs.Leading.{leads_on}
 use Rattle.broker_points.proofs.point.crash.Goals as goal
 

@@ -4,7 +4,7 @@ use Rattle.std.specs.Prelude.{IsTrue}
 use Rattle.directory.specs.Directory.{Directory}
 use Rattle.named.specs.Brokers.{Brokered}
 use Rattle.broker_script.specs.Standing.{QueuesStay}
-use Rattle.broker_checks.proofs.Facts.{of_ok}
+use Rattle.broker_points.proofs.Explaining.{of_ok}
 use Rattle.broker_points.proofs.point.found.Goals as goal
 use Rattle.broker_points.proofs.point.found.Goals.{then-kept, else-kept}
 

@@ -4,7 +4,7 @@ use Rattle.std.proofs.lemmas.Result.{IfOk-weaker}
 use Rattle.std.specs.List.{concat}
 use Rattle.std.specs.Prelude.{count_by, not}
 use Rattle.broker_script.specs.Play.{Played, session_of}
-use Rattle.broker_acts.specs.Acts.{AreActsOf}
+use Rattle.broker_points.specs.Acts.{AreActsOf}
 use Rattle.broker_points.specs.Run.{count_text}
 use Rattle.broker_points.specs.Sweep.{text_of, AreOk}
 use Rattle.broker_points.specs.declared.point.Point.{Point}

@@ -1,7 +1,7 @@
 use Rattle.std.proofs.Common.{◌≡◌, ◌+◌, Ok, map, sym, ap, ◌∙◌}
 use Rattle.std.specs.List.{range_with_len}
 use Rattle.grammar.specs.Grammar.{shape_by}
-use Rattle.attempts.specs.Acts.{acts_of}
+use Rattle.explore.specs.Acts.{acts_of}
 use Rattle.explore.specs.Points.{found_of, part_of, points_of}
 use Rattle.grammar.specs.Scripted.{Scripted}
 use Rattle.explore.proofs.Sweeps.{part_of-none, points_are, all_ok}

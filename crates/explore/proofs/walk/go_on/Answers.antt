@@ -2,7 +2,7 @@ use Rattle.std.proofs.Common.{◌++◌, ◌∷◌, [], ℕ, List, take, sym, ap,
 use Rattle.std.proofs.lemmas.List.{take_more}
 use Rattle.protocol.specs.declared.acts.Act.{Act}
 use Rattle.interleave.specs.State.{State, after_act, after_acts}
-use Rattle.attempts.proofs.Facts.{after_more}
+use Rattle.explore.proofs.InOrder.{after_more}
 use Rattle.explore.proofs.walk.go_on.Goals as goal
 
 pub returns-in_ok-attempt-clause-world : goal.returns-in_ok-attempt-clause-world

@@ -1,6 +1,6 @@
 use Rattle.std.proofs.Common.{◌≡◌, drop, fold, max}
 use Rattle.script_reports.specs.Reports.{most_steps}
-use Rattle.attempts.specs.declared.answers.Alone.{Alone}
+use Rattle.explore.specs.declared.answers.Alone.{Alone}
 use Rattle.script_reports.proofs.reports.most_steps.Given as goal
 
 -- the calls that are left bring what all of them do

@@ -1,4 +1,4 @@
-use Rattle.std.proofs.Common.{sym, ap, ◌∙◌}
+use Rattle.std.proofs.Common.{sym, ap}
 use Rattle.desk.proofs.Turns.{turn_begun}
 use Rattle.desk.specs.Serving.{has_stopped}
 use Rattle.desk.proofs.desk.BrokerDesk.new.Goals as goal

@@ -1,5 +1,0 @@
-mod Shapes
-mod InOrder
-mod Attempted
-mod StoppedCalls
-pub mod Facts

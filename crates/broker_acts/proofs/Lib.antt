@@ -1,3 +1,0 @@
-mod Making
-mod Said
-mod Plainly

@@ -1,5 +1,0 @@
-use Rattle.broker_acts.proofs.Plainly.{none_refused}
-use Rattle.broker_acts.proofs.laws.no_refusal_without_again.Goals as goal
-
-pub returns : goal.returns
-returns c = none_refused

@@ -1,5 +1,0 @@
-use Rattle.broker_acts.proofs.Plainly.{script_differs}
-use Rattle.broker_acts.proofs.laws.refusals_alone_differ.Goals as goal
-
-pub returns : goal.returns
-returns c = script_differs

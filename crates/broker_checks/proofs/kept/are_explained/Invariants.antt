@@ -1,4 +1,0 @@
-use Rattle.broker_checks.proofs.kept.are_explained.Given as goal
-
-abbrev pub invariant-loop-slot : goal.invariant-loop-slot
-invariant-loop-slot l = Unit {0}
