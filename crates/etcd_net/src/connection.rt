@@ -82,7 +82,9 @@ impl Connection {
         ];
         let mut text = Vec::new(self.alloc);
         let size = BodySize::Known(body.len() as u64);
-        let head = self.client.write_request(&mut text, b"POST", path.as_bytes(), &headers, size);
+        let head = self
+            .client
+            .write_request(&mut text, b"POST", path.as_bytes(), &headers, size);
         if head.is_err() {
             return Err(Lost);
         }
@@ -147,6 +149,10 @@ impl Connection {
 
     /// The body of the answer to a request with this body.
     pub(crate) fn ask(&mut self, path: &str, body: &[u8]) -> Result<Vec<u8>, Lost> {
+        // What came unasked would be taken for the answer.
+        if !self.unread.is_empty() {
+            return Err(Lost);
+        }
         let text = self.request_text(path, body)?;
         if self.stream.write_all(&text).is_err() {
             return Err(Lost);

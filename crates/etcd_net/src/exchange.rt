@@ -15,6 +15,7 @@ use std::time::{Duration, Instant};
 
 /// How long it rests before it asks again, at first and at most.
 const FIRST_REST_MILLIS: u64 = 20;
+
 const MOST_REST_MILLIS: u64 = 500;
 
 /// How long it is still before it says that no answer comes, each time.
