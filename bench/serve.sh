@@ -9,7 +9,8 @@
 # put, reserve and delete of a job, the delete once the job is known; of redis RPUSH and LPOP. Without a journal pqd keeps
 # its words in memory and writes an image when it stops, so its like are the peers in memory. The others write to the
 # folder of TMPDIR: pqd with a journal that is kept each second (`pqd-second`) or before each reply (`pqd-always`), redis
-# likewise, beanstalkd with its own pause between two syncs or none (`beanstalkd-b0`).
+# likewise, beanstalkd with its own pause between two syncs or none (`beanstalkd-b0`). Where ETCD has the addresses of
+# members of etcd (HOST:PORT,..), pqd with a journal there is measured too (`pqd-etcd`).
 #
 # With --renew only pqd is measured, with 8 clients: for a minute (LASTS seconds) in which its queues are renewed over
 # and over, beside a second without, or less, of which a client has room for no more. Each connection has a queue for
@@ -75,6 +76,11 @@ start() {
             start_pqd 16 --journal "$work/data/journal" --sync "${1#pqd-}"
             return
             ;;
+        pqd-etcd)
+            # (a log of its own, which nobody has yet)
+            start_pqd 16 --journal "etcd://$ETCD/bench/r$RANDOM$RANDOM"
+            return
+            ;;
         beanstalkd) beanstalkd -l 127.0.0.1 -p "$port" > /dev/null & ;;
         beanstalkd-b0) beanstalkd -l 127.0.0.1 -p "$port" -b "$work/data" -f 0 > /dev/null & ;;
         beanstalkd-b) beanstalkd -l 127.0.0.1 -p "$port" -b "$work/data" > /dev/null & ;;
@@ -123,6 +129,7 @@ if [ -n "$renewed" ]; then
 fi
 
 servers=(pqd pqd-second pqd-always)
+[ -z "${ETCD:-}" ] || servers+=(pqd-etcd)
 if command -v beanstalkd > /dev/null; then
     servers+=(beanstalkd beanstalkd-b beanstalkd-b0)
 else

@@ -1,8 +1,8 @@
 #!/usr/bin/env bash
 # The examples as a user runs them: clients of one `pqd serve`, which is stopped at the end and leaves an image. What
 # each prints is compared to the letter with tests/examples/NAME.out. It takes the program that the last `rt ci`, or
-# `rt run` in crates/pqd, left. The client in shell needs `nc` (netcat-openbsd) and `jq`, and the unit `systemd-analyze`;
-# where they are not there, these are left out, which is said.
+# `rt run` in crates/pqd, left. The client in shell needs `nc` (netcat-openbsd) and `jq`, the unit `systemd-analyze`, and
+# the broker that outlives its machine `etcd`; where they are not there, these are left out, which is said.
 set -eu
 cd "$(dirname "$0")/.."
 . tests/cases.sh
@@ -38,6 +38,14 @@ else
     leave_out 'examples/client.sh, which needs nc and jq'
     # The image has not the queue that it would have made.
     sed -i 's/,{"kind":"durable","queue":"lines"}//' "$work/image.out"
+fi
+
+if command -v etcd > /dev/null; then
+    status=0
+    timeout 120 examples/outlive.sh "$pqd" > "$work/out" 2> "$work/err" || status=$?
+    compare outlive.sh 0 "$status" tests/examples/outlive.out /dev/null
+else
+    leave_out 'examples/outlive.sh, which needs etcd (Debian: etcd-server)'
 fi
 
 # It is stopped as its unit for systemd says, whose quotes are systemd's.

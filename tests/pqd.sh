@@ -65,7 +65,7 @@ bad_option "unexpected argument '--workers' found" 'pqd pipe [OPTIONS]' pipe --w
 bad_option "unexpected argument '--clint' found"$'\n\n  tip: '"a similar argument exists: '--clients'" \
     'pqd pipe --clients <T>' pipe --clint 4
 for option in 'clients <T>' 'records <K>' 'image <FILE>' 'journal <FILE>' 'sync <WHEN>' 'listen <ADDRESS>' 'port <P>' \
-    'workers <N>'; do
+    'workers <N>' 'patience <S>'; do
     bad_option "a value is required for '--$option' but none was supplied" '' serve "--${option%% *}"
     bad_option "the argument '--$option' cannot be used multiple times" 'pqd serve [OPTIONS]' \
         serve "--${option%% *}" 1 "--${option%% *}" 1
@@ -92,6 +92,23 @@ for address in '' localhost 127.0.0 127.0.0.256 ::g 1; do
     bad_option "the option '--listen' takes an IPv4 or an IPv6 address" 'pqd <COMMAND>' serve "--listen=$address"
 done
 bad_option "the option '--sync' goes with '--journal'" 'pqd <COMMAND>' pipe --sync always
+# Options of a journal in etcd, which go with one alone.
+log=etcd://127.0.0.1:1/log
+for patience in 0 86401 -1 x ''; do
+    bad_option "the option '--patience' takes a whole number from 1 to 86400" 'pqd <COMMAND>' \
+        serve --journal "$log" "--patience=$patience"
+done
+for when in second never; do
+    bad_option "the option '--sync' takes always alone for a journal in etcd" 'pqd <COMMAND>' \
+        serve --journal "$log" --sync "$when"
+done
+for word in --standby --take-over --patience=1; do
+    for command in pipe 'serve --journal tests'; do
+        # shellcheck disable=SC2086
+        bad_option "the options '--standby', '--take-over' and '--patience' go with '--journal etcd://..'" \
+            'pqd <COMMAND>' $command "$word"
+    done
+done
 # One comes before the image is looked at, which comes before listening.
 bad_option "the option '--clients' takes a whole number from 1 to 16" 'pqd <COMMAND>' pipe --image tests --clients 0
 

@@ -9,7 +9,7 @@ import time
 
 TOP = os.path.dirname(os.path.dirname(os.path.abspath(__file__)))
 # The longest ones begin first, so that none runs alone at the end.
-LONGEST = ("refused", "every", "fuzz", "memory", "clients", "pqx", "journaled", "renewal", "named", "pqd", "check")
+LONGEST = ("refused", "every", "fuzz", "memory", "clients", "pqx", "journaled", "renewal", "etcd", "named", "pqd", "check")
 COUNTED = re.compile(r"^([0-9]+) passed, ([0-9]+) failed(?:, ([0-9]+) left out)?$")
 BEGUN = time.monotonic()
 

@@ -28,9 +28,12 @@ with_queue_rules a = with_rule (with_rule (with_rule (with_rule a
 
 -- a command with the options of a journal
 abbrev pub with_journal_rules : App → App
-with_journal_rules a = with_rule (with_rule a
+with_journal_rules a = with_rule (with_rule (with_rule (with_rule (with_rule a
     (option_rule (codes "journal")))
-    (option_rule (codes "sync"))
+    (option_rule (codes "sync")))
+    (flag_rule (codes "standby")))
+    (flag_rule (codes "take-over")))
+    (option_rule (codes "patience"))
 
 abbrev pub pipe_app : App
 pipe_app = with_journal_rules (with_queue_rules (new_app (codes "pipe")))

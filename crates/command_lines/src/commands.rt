@@ -139,13 +139,31 @@ const JOURNAL: Described<'static> = Described {
     help: "Has every change in this file before a reply that follows it, so that a kill loses nothing",
 };
 
+const STANDBY: Described<'static> = Described {
+    name: "standby",
+    form: Form::Flag,
+    help: "Waits until the server that has the journal in etcd takes no connections any more",
+};
+
+const TAKE_OVER: Described<'static> = Described {
+    name: "take-over",
+    form: Form::Flag,
+    help: "Takes the journal in etcd at once, from whoever has it",
+};
+
+const PATIENCE: Described<'static> = Described {
+    name: "patience",
+    form: Form::Option("S"),
+    help: "The seconds for which etcd is asked again that does not answer [default: 60]",
+};
+
 const SYNC: Described<'static> = Described {
     name: "sync",
     form: Form::Option("WHEN"),
     help: "When the journal outlives a loss of power: always, second or never [default: second]",
 };
 
-/// `pipe [--clients T] [--records K] [--image FILE] [--journal FILE [--sync WHEN]] [--renew]`
+/// `pipe [--clients T] [--records K] [--image FILE] [--journal FILE [--sync WHEN]] [--renew]`, and the options of a log
 const PIPE: DescribedCommand<'static> = DescribedCommand {
     name: "pipe",
     about: "Answers the requests of standard input on standard output",
@@ -161,11 +179,14 @@ const PIPE: DescribedCommand<'static> = DescribedCommand {
         },
         JOURNAL,
         SYNC,
+        STANDBY,
+        TAKE_OVER,
+        PATIENCE,
     ],
 };
 
 /// `serve [--clients T] [--records K] [--image FILE] [--journal FILE [--sync WHEN]] [--renew] [--listen ADDRESS] [--port P]
-/// [--workers N]`
+/// [--workers N]`, and the options of a log
 const SERVE: DescribedCommand<'static> = DescribedCommand {
     name: "serve",
     about: "Answers the requests of connections to a port",
@@ -181,6 +202,9 @@ const SERVE: DescribedCommand<'static> = DescribedCommand {
         },
         JOURNAL,
         SYNC,
+        STANDBY,
+        TAKE_OVER,
+        PATIENCE,
         Described {
             name: "listen",
             form: Form::Option("ADDRESS"),

@@ -1,12 +1,13 @@
 -- Whether bytes are a tail's text.
-use Rattle.std.proofs.Common.{◌≡◌, ◌≢◌, ◌<◌, ◌^◌, ℕ, Bool, true, false, List, refl, sym, ap, ◌∙◌, subst}
-use Rattle.std.specs.Prelude.{◌↔◌, IsTrue, bytes_eq}
+use Rattle.std.proofs.Common.{◌≡◌, ◌≢◌, ◌<◌, ◌^◌, ℕ, Bool, true, false, true≢false, List, Option, Some, None, Vec, Global, is_some, refl, sym, ap, ◌∙◌, subst}
+use Rattle.std.specs.Prelude.{◌↔◌, IfSome, IsTrue, bytes_eq}
 use Rattle.std.proofs.lemmas.Slice.Eq.{bytes_eq-Decides}
-use Rattle.fenced.specs.Engine.{Tail as Said}
+use Rattle.fenced.specs.Engine.{Engine, Tail as Said}
 use Rattle.fenced.proofs.Facts.{same_fields}
 use Rattle.etcd_text.specs.declared.tail.Tail.{Tail}
 use Rattle.etcd_text.specs.Tails.{Fits, IsNoTail, IsTailOf, said_by, spelled}
 use Rattle.etcd_text.proofs.Facts.{one_spelling}
+use Rattle.etcd_log.specs.Asking.{FindsTail, IsTailText}
 
 fits : (generation count : ℕ) (owner : List ℕ) → generation < 2 ^ 64 → count < 2 ^ 64 → Fits (record { generation = generation; count = count; owner = owner })
 fits generation count owner one other = record { generation = one; count = other }
@@ -44,3 +45,23 @@ by_owner bytes tail generation count owner same_owner one other is first second 
           answer ∙ (bytes_eq-Decides tail.owner.now owner).1
           (ap (λ (s : Said). s.owner) (is_other bytes tail (record { generation = generation; count = count; owner = owner }) (fits generation count owner one other) is same)),
     )
+
+-- the tail whose text was found is the one that spells so
+text_found : (tail : Option Said) (bytes : Vec ℕ Global) (said : Said) → Fits said → IsTailText tail (Some bytes)
+    → bytes.items ≡ spelled said → tail ≡ Some said
+text_found None bytes said fit told same =
+    let never : true ≡ false = ap is_some told in absurd (true≢false never)
+text_found (Some tail) bytes said fit told same = ap Some (one_spelling tail said told.1 fit (sym told.0 ∙ same))
+
+of_text_found : (engine : Option Engine) (bytes : Vec ℕ Global) (said : Said) → Fits said → FindsTail engine (Some bytes)
+    → bytes.items ≡ spelled said → IfSome engine (λ e. e.tail ≡ Some said)
+of_text_found None bytes said fit told same = tt
+of_text_found (Some e) bytes said fit told same = text_found e.tail bytes said fit told same
+
+pub tail_found : (engine : Option Engine) (found : Option (Vec ℕ Global)) (bytes : Vec ℕ Global) (generation count : ℕ) (owner : List ℕ)
+    → generation < 2 ^ 64 → count < 2 ^ 64 → FindsTail engine found → found ≡ Some bytes
+    → bytes.items ≡ spelled (record { generation = generation; count = count; owner = owner })
+    → IfSome engine (λ e. e.tail ≡ Some (record { generation = generation; count = count; owner = owner }))
+tail_found engine found bytes generation count owner one other told is same =
+    of_text_found engine bytes (record { generation = generation; count = count; owner = owner }) (fits generation count owner one other)
+    (subst (λ (o : Option (Vec ℕ Global)). FindsTail engine o) is told) same

@@ -26,7 +26,7 @@ pub enum Undone {
 }
 
 /// Whether these bytes are the text of the tail that has these numbers and this owner.
-fn is_spelled(bytes: &[u8], generation: u64, count: u64, owner: &[u8]) -> bool
+pub(crate) fn is_spelled(bytes: &[u8], generation: u64, count: u64, owner: &[u8]) -> bool
     ensures { IsTrue result
         ↔ (bytes.now ≡ spelled (record { generation = generation; count = count; owner = owner.now })) }
 {
@@ -56,7 +56,7 @@ fn says_done(answer: &Answer, next: &Option<Tail>) -> bool
 }
 
 /// Why a request is not done that is answered so, by an owner of this name.
-fn reason(answer: &Answer, owner: &[u8]) -> Undone {
+pub(crate) fn reason(answer: &Answer, owner: &[u8]) -> Undone {
     match answer {
         Answer::Value(Some(bytes)) => match tail_in(bytes) {
             Some(tail) if tail.owner != owner => Undone::TakenOver,

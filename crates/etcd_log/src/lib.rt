@@ -12,4 +12,5 @@ mod taking;
 pub use deciding::Undone;
 pub use exchange::{Exchange, Lost};
 pub use plain::{Fate, PlainEngine};
+pub use questions::ask_tail;
 pub use store::EtcdStore;

@@ -1,13 +1,14 @@
 //! What the tail and the pieces are.
 
-ghost use Rattle.std.specs.Prelude.{◌≡◌, true, IfOk};
+ghost use Rattle.std.specs.Prelude.{◌≡◌, true, IfOk, IfSome, OnOk, Some};
 ghost use Rattle.etcd_text.specs.Asked.{asked_by};
+ghost use Rattle.etcd_text.specs.Tails.{said_by};
 ghost use Rattle.etcd_text.specs.Texts.{is_range};
 ghost use Rattle.etcd_log.specs.Asking.{AreSame, FindsPiece, FindsTail, IsToldBy};
 
-use crate::deciding::Undone;
+use crate::deciding::{Undone, is_spelled, reason};
 use crate::exchange::{Exchange, Lost};
-use etcd_text::{Answer, Request};
+use etcd_text::{Answer, Request, Tail};
 use std::alloc::Global;
 
 /// Asks until an answer comes. A question changes nothing.
@@ -29,8 +30,8 @@ fn question<X: Exchange>(exchange: &mut X, request: &Request) -> Result<Answer, 
     Err(Undone::NoEngine)
 }
 
-/// The text of the tail, if there is one.
-pub(crate) fn ask_tail<X: Exchange>(exchange: &mut X) -> Result<Option<Vec<u8>>, Undone>
+/// The text of the tail, if there is one. It is refused where no answer comes (NoEngine), or none that can (BadAnswer).
+pub fn ask_tail<X: Exchange>(exchange: &mut X) -> Result<Option<Vec<u8>>, Undone>
     ensures told { IfOk result (FindsTail (X.engine exchange.new)) }
     ensures same { AreSame (X.engine exchange.old) (X.engine exchange.new) }
 {
@@ -55,4 +56,23 @@ pub(crate) fn ask_piece<X: Exchange>(
         Ok(Answer::Done) => Err(Undone::BadAnswer),
         Err(undone) => Err(undone),
     }
+}
+
+/// Asks whether this is still the tail. It is refused where another owner has the log (TakenOver), where the tail is none
+/// that this one can have put (BadAnswer), and where no answer comes (NoEngine).
+pub(crate) fn confirm<X: Exchange>(exchange: &mut X, tail: &Tail) -> Result<(), Undone>
+    ensures there { OnOk result (IfSome (X.engine exchange.new) (λ engine. engine.tail ≡ Some (said_by tail.now))) }
+    ensures same { AreSame (X.engine exchange.old) (X.engine exchange.new) }
+{
+    let found = match ask_tail(exchange) {
+        Ok(found) => found,
+        Err(undone) => return Err(undone),
+    };
+    let Some(text) = found else {
+        return Err(Undone::BadAnswer);
+    };
+    if is_spelled(&text, tail.generation, tail.count, tail.owner) {
+        return Ok(());
+    }
+    Err(reason(&Answer::Value(Some(text)), tail.owner))
 }

@@ -6,6 +6,7 @@ ghost use Rattle.etcd_log.specs.Logged.{HasTail, text_in};
 use crate::deciding::Undone;
 use crate::exchange::Exchange;
 use crate::pieces::{put_all, put_in_place};
+use crate::questions::confirm;
 use crate::taking::{read, take};
 use devices::Failed;
 use etcd_text::Tail;
@@ -33,6 +34,8 @@ pub struct EtcdStore<X: Exchange + Drop> {
     failed: bool,
     gone: bool,
     undone: Option<Undone>,
+    /// How often the engine told that the tail is this owner's.
+    answers: u64,
 }
 
 impl<X: Exchange + Drop> Model for EtcdStore<X> {
@@ -71,6 +74,7 @@ impl<X: Exchange + Drop> EtcdStore<X> {
             failed: true,
             gone: false,
             undone: None,
+            answers: 0,
         }
     }
 
@@ -135,6 +139,7 @@ impl<X: Exchange + Drop> Storage for EtcdStore<X> {
             Ok(count) => {
                 self.count = count;
                 self.size = size;
+                self.answers = self.answers.wrapping_add(1);
                 Ok(())
             }
             Err(undone) => {
@@ -174,6 +179,7 @@ impl<X: Exchange + Drop> Storage for EtcdStore<X> {
                 self.size = bytes.len() as u64;
                 self.kept = self.size;
                 self.failed = false;
+                self.answers = self.answers.wrapping_add(1);
                 Ok(())
             }
             Err(undone) => {
@@ -181,6 +187,30 @@ impl<X: Exchange + Drop> Storage for EtcdStore<X> {
                 self.gone = true;
                 self.undone = Some(undone);
                 Err(Unplaced::Unknown)
+            }
+        }
+    }
+
+    fn answers(&self) -> u64 {
+        self.answers
+    }
+
+    fn confirm(&mut self) -> Result<(), Failed> {
+        let tail = Tail {
+            generation: self.generation,
+            count: self.count,
+            owner: &self.owner,
+        };
+        match confirm(&mut self.exchange, &tail) {
+            Ok(()) => {
+                self.answers = self.answers.wrapping_add(1);
+                Ok(())
+            }
+            Err(undone) => {
+                self.failed = true;
+                self.gone = true;
+                self.undone = Some(undone);
+                Err(Failed)
             }
         }
     }

@@ -400,3 +400,9 @@ append_done batch words new_words end new_end size new_size kept known new_known
 pub refused : (e : Refusal) (changes : List Change) (size : ℕ) (words : List ℕ) (Over Full Same : Type 0) → size ≡ length words → Same
     → MayRefuseFrame size changes e → Over ⊎ Full ⊎ MayRefuseFrame (length words) changes e × Same
 refused e changes size words Over Full Same is same may = inr (inr (subst (λ (n : ℕ). MayRefuseFrame n changes e) is may, same))
+
+-- a place that is still this one's has what it had
+pub confirmed : (words : List ℕ) (end : End) (size kept : ℕ) (known new_known : Option (List ℕ)) (lasting new_lasting : ℕ) (failed new_failed : Bool) → failed ≡ false → new_failed ≡ false → new_known ≡ known → new_lasting ≡ lasting
+    → HasNoMore (on words end size kept known lasting failed) (on words end size kept new_known new_lasting new_failed)
+confirmed words end size kept known new_known lasting new_lasting failed new_failed was is same lasts key base batches count of =
+    rw (same, lasts, is, sym was) of

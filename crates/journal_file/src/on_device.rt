@@ -195,6 +195,23 @@ impl<S: Storage + Drop> Journal<S> {
         Ok(())
     }
 
+    /// Asks the storage whether the place is still this one's. It is refused where it is not, or has failed before
+    /// (WriteFailed).
+    pub fn confirm(&mut self) -> Result<(), Refusal>
+        ensures same { OnOk result (self.new ≡ self.old) }
+        ensures no_more { OnErr result (HasNoMore self.old self.new) }
+        ensures words { self.new.words ≡ self.old.words }
+        ensures errors { IfErr result (λ e. (e ≡ Refusal.WriteFailed) × (self.new.failed ≡ true)) }
+    {
+        if self.has_failed() {
+            return Err(Refusal::WriteFailed);
+        }
+        if self.storage.confirm().is_err() {
+            return Err(Refusal::WriteFailed);
+        }
+        Ok(())
+    }
+
     /// Goes on as a journal of its words and no batch, which takes the place of this one, also where the storage had
     /// failed. Where that is refused, this one stays as it is; but where it is not known which one has the place, the
     /// storage has failed, and both have all batches that were appended.

@@ -61,6 +61,17 @@ pub trait Storage {
             → HasEither (appended self.old) (kept self.old) (appended self.new) (kept self.new) bytes.now }
         ensures over { result ≡ Err Unplaced.Unknown → failed self.new ≡ true };
 
+    /// How often the place told that it is still this one's, by an append, by other bytes that took it or by a
+    /// confirmation. A place that nobody else can take tells nothing.
+    fn answers(&self) -> u64;
+
+    /// Asks the place whether it is still this one's. Where it is another's by now, or does not tell, this fails.
+    fn confirm(&mut self) -> Result<(), Failed>
+        requires { failed self.old ≡ false }
+        ensures bytes { appended self.new ≡ appended self.old }
+        ensures kept { kept self.new ≡ kept self.old }
+        ensures failed { failed self.new ≡ is_err result };
+
     /// A key that was just drawn, for the journal that is to take the place next.
     fn draw_key(&self) -> Result<[u8; KEY_BYTES], Failed>;
 }

@@ -28,7 +28,7 @@ fn without_zeros(bytes: &[u8]) -> usize
 }
 
 /// The words of these bytes. A torn tail is left out, unless bytes of it were kept: then they are damaged (BadSum).
-pub(crate) fn found_in(alloc: Global, bytes: &[u8]) -> Result<Found, Fault>
+pub fn found_in(alloc: Global, bytes: &[u8]) -> Result<Found, Fault>
     ensures { IfOk result (IsFoundIn bytes.now) }
 {
     let Reading { key, words, cut } = journal::read(alloc, bytes)?;

@@ -12,7 +12,7 @@ mod system;
 
 pub use fault::Fault;
 pub use folder::{FileName, Folder};
-pub use found::Found;
+pub use found::{Found, found_in};
 pub use laws::stops_leave_a_beginning_there;
 pub use memory::{Failing, MemoryFolder};
 pub use store::Store;

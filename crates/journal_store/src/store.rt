@@ -173,6 +173,15 @@ impl<D: Folder + Drop> Storage for Store<D> {
         Ok(())
     }
 
+    fn answers(&self) -> u64 {
+        0
+    }
+
+    fn confirm(&mut self) -> Result<(), Failed> {
+        // Nobody else takes the place of a file whose lock is held.
+        Ok(())
+    }
+
     fn draw_key(&self) -> Result<[u8; KEY_BYTES], Failed> {
         self.folder.draw_key()
     }

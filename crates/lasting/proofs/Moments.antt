@@ -473,6 +473,13 @@ pub kept_keeping : {T : Type 0} (first : Sessioned) (k : Kept) (new : OnDevice) 
 kept_keeping {T} first k new (Ok done) is keeps same words = kept_kept first k new is keeps words
 kept_keeping {T} first k new (Err refusal) is keeps same words = kept_no_more first k new is same words
 
+-- and one whose place told that it is still its own, or did not
+pub kept_confirmed : {T : Type 0} (first : Sessioned) (k : Kept) (new : OnDevice) (answer : Result T Refusal) → IsKept first k
+    → OnOk answer (new ≡ k.journal) → OnErr answer (HasNoMore k.journal new) → new.words ≡ k.journal.words
+    → IsKept first (record k { journal = new })
+kept_confirmed {T} first k new (Ok done) is same no_more words = subst (λ (j : OnDevice). IsKept first (record k { journal = j })) (sym same) is
+kept_confirmed {T} first k new (Err refusal) is same no_more words = kept_no_more first k new is no_more words
+
 -- more was handed on, where nothing was pending: the moment goes on from that of the hand-on before
 pub kept_more : (first : Sessioned) (k : Kept) (last : Sessioned) (handed batch : List Change) (assured : List Sessioned)
     → IsKept first k → k.pending ≡ [] → handed ≡ k.handed ++ batch

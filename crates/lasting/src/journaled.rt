@@ -293,6 +293,14 @@ impl<J: Naming, S: Storage + Drop> Journaled<J, S> {
         self.keep()
     }
 
+    /// Asks whether the journal is still this one's, as [`Journal::confirm`] does, and is refused as that is.
+    pub fn confirm(&mut self) -> Result<(), Refusal>
+        ensures same { OnOk result (self.new ≡ self.old) }
+        ensures policy { self.new.policy ≡ self.old.policy }
+    {
+        self.journal.confirm()
+    }
+
     /// A key that was just drawn.
     pub fn draw_key(&self) -> Result<[u8; KEY_BYTES], Failed> {
         self.journal.storage().draw_key()

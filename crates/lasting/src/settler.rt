@@ -322,6 +322,63 @@ impl<J: Naming, S: Storage + Drop> Settler<J, S> {
         (settler, Ok(assured))
     }
 
+    /// How often the place of the journal told that it is still this one's, as [`Storage::answers`] says.
+    pub fn answers(&self) -> u64 {
+        self.journaled.journal().storage().answers()
+    }
+
+    /// Asks whether the place of the journal is still this one's. Where it is not, it has failed for good.
+    pub fn confirm(&mut self) -> Result<(), Failed>
+        ensures same { OnOk result (self.new ≡ self.old) }
+        ensures policy { self.new.policy ≡ self.old.policy }
+        ensures failed { OnErr result (self.new.failed ≡ true) }
+    {
+        match self.journaled.confirm() {
+            Ok(()) => Ok(()),
+            Err(_) => {
+                self.failed = true;
+                Err(Failed)
+            }
+        }
+    }
+
+    /// The same, where that is asked for.
+    fn confirm_if(&mut self, asks: bool) -> Result<(), Failed>
+        ensures same { OnOk result (self.new ≡ self.old) }
+        ensures policy { self.new.policy ≡ self.old.policy }
+    {
+        if !asks {
+            return Ok(());
+        }
+        self.confirm()
+    }
+
+    /// Settles as [`Settler::settle_up_to`] does, and asks then whether the place of the journal is still this one's,
+    /// where that is asked for and nothing was put there meanwhile. It fails for good where it is not.
+    pub fn settle_current<R: Wait>(
+        self,
+        rt: &R,
+        alloc: Global,
+        shared: &Shared<J>,
+        marked: Marked<J>,
+        asks: bool,
+    ) -> (Self, Result<Assured<J>, Failed>)
+        ensures settled { OnOk result.1 (HasSettled J.first result.0) }
+        ensures assured { IfOk result.1 (λ assured. assured ≡ marked) }
+        ensures policy { result.0.policy ≡ self.policy }
+    {
+        let before = self.answers();
+        let (mut settler, settled) = self.settle_up_to(rt, alloc, shared, marked);
+        let Ok(assured) = settled else {
+            return (settler, Err(Failed));
+        };
+        let asks = asks && settler.answers() == before;
+        if settler.confirm_if(asks).is_err() {
+            return (settler, Err(Failed));
+        }
+        (settler, Ok(assured))
+    }
+
     /// Hears a token of this journal: it assures the token's session. Both come back as they were. It is said of the journal
     /// that stands at the place of the storage.
     pub fn hears(self, assured: Assured<J>) -> (Self, Assured<J>)

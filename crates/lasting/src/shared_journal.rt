@@ -9,7 +9,7 @@ use crate::settling::Settling;
 use devices::Failed;
 use journal_file::Storage;
 use std::alloc::Global;
-use std::sync::atomic::{AtomicBool, Ordering};
+use std::sync::atomic::{AtomicBool, AtomicU64, Ordering};
 use std::sync::{Mutex, MutexGuard, Wait};
 use std::thread::sleep;
 use std::time::{Clock, Duration};
@@ -22,10 +22,19 @@ const NAP_MILLIS: u64 = 50;
 /// How often it rests between two times.
 const NAPS: u32 = 20;
 
+/// A call that settles: its number, and how many such calls had begun when it had the settler for itself.
+#[derive(Clone, Copy)]
+struct Turn {
+    ticket: u64,
+    begun: u64,
+}
+
 /// The place of a settler, who is there but while it settles, and keeps the journal by the policy of the place.
 #[derive(Drop)]
 struct Place<J: Naming + Settling, S: Storage + Drop> {
     settler: Option<Settler<J, S>>,
+    /// The place of the journal told that it is still this one's once so many calls that settle had begun.
+    confirmed: u64,
     ghost there: { IsSome settler },
     ghost by: { ForSome settler (λ s. s.policy ≡ J.policy) },
 }
@@ -38,7 +47,7 @@ impl<J: Naming + Settling, S: Storage + Drop> Place<J, S> {
     fn into_settler(self) -> Settler<J, S>
         ensures { result.policy ≡ J.policy }
     {
-        let Place { settler } = self;
+        let Place { settler, .. } = self;
         match settler {
             Some(settler) => settler,
             None => unreachable!(),
@@ -53,13 +62,15 @@ impl<J: Naming + Settling, S: Storage + Drop> Place<J, S> {
         }
     }
 
-    /// It settles up to a mark: at Ok all that was handed on is appended, and kept as the policy of the place says.
+    /// It settles up to a mark: at Ok all that was handed on is appended, and kept as the policy of the place says. What
+    /// it answered before may be told: the place of the journal was asked since.
     fn settle_up_to<R: Wait>(
         &mut self,
         rt: &R,
         alloc: Global,
         shared: &Shared<J>,
         marked: Marked<J>,
+        turn: Turn,
     ) -> Result<Assured<J>, Failed>
         ensures assured { IfOk result (λ assured. assured ≡ marked) }
         ensures settled { OnOk result (ForSome self.new.settler (λ s. HasSettled J.first s)) }
@@ -67,7 +78,12 @@ impl<J: Naming + Settling, S: Storage + Drop> Place<J, S> {
         let Some(settler) = self.settler.take() else {
             unreachable!()
         };
-        let (settler, settled) = settler.settle_up_to(rt, alloc, shared, marked);
+        let before = settler.answers();
+        let asks = turn.ticket >= self.confirmed;
+        let (settler, settled) = settler.settle_current(rt, alloc, shared, marked, asks);
+        if settled.is_ok() && settler.answers() != before {
+            self.confirmed = turn.begun;
+        }
         self.settler = Some(settler);
         settled
     }
@@ -93,6 +109,8 @@ pub struct SharedJournal<'a, J: Naming + Settling, S: Storage + Drop> {
     shared: &'a Shared<J>,
     policy: Policy,
     failed: AtomicBool,
+    /// How many calls that settle have begun.
+    tickets: AtomicU64,
     /// This lock is taken before the session's. It is held while the storage works.
     place: Mutex<Place<J, S>>,
     ghost by: { policy ≡ J.policy },
@@ -109,12 +127,14 @@ impl<'a, J: Naming + Settling, S: Storage + Drop> SharedJournal<'a, J, S> {
         let failed = AtomicBool::new(settler.has_failed());
         let place = Mutex::new(Place {
             settler: Some(settler),
+            confirmed: 0,
         });
         SharedJournal {
             alloc,
             shared,
             policy,
             failed,
+            tickets: AtomicU64::new(0),
             place,
         }
     }
@@ -164,15 +184,21 @@ impl<'a, J: Naming + Settling, S: Storage + Drop> SharedJournal<'a, J, S> {
 
     /// Settles as [`Settler::settle_up_to`] does. Where others have settled so much, as they do while it waits for the
     /// lock, it neither appends nor keeps anything. Whoever has the settler back learns what the token says
-    /// ([`Settler::hears`]).
+    /// ([`Settler::hears`]). No answer that was made before it was called is told before the place of the journal was
+    /// asked whether it is still this one's: by what this call asks, or by what another one did that began behind it.
     pub fn settle_up_to<R: Wait>(&self, rt: &R, marked: Marked<J>) -> Result<Assured<J>, Failed>
         ensures { IfOk result (λ assured. assured ≡ marked) }
     {
         if self.has_failed() {
             return Err(Failed);
         }
+        let ticket = self.tickets.fetch_add(1, Ordering::SeqCst);
         let mut place = self.locked(rt);
-        let settled = place.settle_up_to(rt, self.alloc, self.shared, marked);
+        let turn = Turn {
+            ticket,
+            begun: self.tickets.load(Ordering::SeqCst),
+        };
+        let settled = place.settle_up_to(rt, self.alloc, self.shared, marked, turn);
         self.note(&place);
         settled
     }

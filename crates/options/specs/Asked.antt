@@ -11,10 +11,8 @@ use Rattle.options.specs.Numbers.{Fits, given_text, number_of}
 use Rattle.options.specs.declared.asked.Options.{Options}
 use Rattle.options.specs.declared.asked.Listening.{Listening}
 use Rattle.options.specs.declared.asked.Mode.{Mode}
-use Rattle.options.specs.declared.asked.Journaling.{Journaling}
-use Rattle.options.specs.declared.asked.Syncing.{Syncing}
-use Rattle.options.specs.declared.asked.Syncing.TheVariants.{Always, EachSecond, Never}
 use Rattle.options.specs.declared.asked.Mode.TheVariants.{Pipe, Serve}
+use Rattle.options.specs.Journals.{JournalFits, JournalsBy}
 
 -- the name of the command that a parse met, with what its options were given
 abbrev pub name_in : Option (Text × List Row) → Option Text
@@ -48,27 +46,6 @@ pub record ListeningFits (given : Text → Option Text) : Type 0 where
   pub address : AddressFits (given (codes "listen"))
   pub port : Fits 0 MAX_PORT (given (codes "port"))
   pub workers : Fits 1 MAX_WORKERS (given (codes "workers"))
-
--- the syncing is the one that is given, and each second where none is
-abbrev pub SyncsBy : Option Text → Syncing → Type 0
-SyncsBy given Always = given ≡ Some (codes "always")
-SyncsBy given EachSecond = (given ≡ None) ⊎ (given ≡ Some (codes "second"))
-SyncsBy given Never = given ≡ Some (codes "never")
-
--- no syncing is given, or one of the three
-abbrev pub IsSyncing : Option Text → Type 0
-IsSyncing None = ⊤
-IsSyncing (Some text) = (text ≡ codes "always") ⊎ (text ≡ codes "second") ⊎ (text ≡ codes "never")
-
--- the syncing of a journal is one of the three, and is given with a journal alone
-pub record JournalFits (given : Text → Option Text) : Type 0 where
-  pub syncing : IsSyncing (given (codes "sync"))
-  pub along : given (codes "journal") ≡ None → given (codes "sync") ≡ None
-
--- the journal is that of its option, with the syncing of its own
-abbrev pub JournalsBy : (Text → Option Text) → Option Journaling → Type 0
-JournalsBy given None = (given (codes "journal") ≡ None) × (given (codes "sync") ≡ None)
-JournalsBy given (Some j) = (given (codes "journal") ≡ Some j.file.now) × SyncsBy (given (codes "sync")) j.syncing
 
 -- what any command was given fits: each number, and the syncing
 pub record AllFit (command : Option Text) (given : Text → Option Text) : Type 0 where

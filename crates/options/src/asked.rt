@@ -2,7 +2,7 @@
 
 ghost use Rattle.std.specs.Prelude.{◌≤◌};
 ghost use Rattle.words.specs.declared.limits.TheConstants.{MAX_CLIENTS, MAX_RECORDS};
-ghost use Rattle.options.specs.declared.limits.TheConstants.{MAX_WORKERS};
+ghost use Rattle.options.specs.declared.limits.TheConstants.{MAX_PATIENCE, MAX_WORKERS};
 
 use std::net::IpAddr;
 
@@ -30,10 +30,40 @@ pub struct Options<'a> {
 
 /// The journal of a broker.
 #[derive(Clone, Copy)]
-pub struct Journaling<'a> {
+pub enum Journaling<'a> {
+    InFile(FileJournal<'a>),
+    InLog(LogJournal<'a>),
+}
+
+/// A journal in a file.
+#[derive(Clone, Copy)]
+pub struct FileJournal<'a> {
     /// The path of its file.
     pub file: &'a str,
     pub syncing: Syncing,
+}
+
+/// A journal in a log of etcd, which keeps always.
+#[derive(Clone, Copy)]
+pub struct LogJournal<'a> {
+    /// The members and the name of the log, as they stand behind `etcd://`.
+    pub address: &'a str,
+    pub taking: Taking,
+    /// For how many seconds a request is sent again that is not answered, from 1 to `MAX_PATIENCE`.
+    pub patience: u32,
+    ghost some_patience: { 1 ≤ patience },
+    ghost little_patience: { patience ≤ MAX_PATIENCE },
+}
+
+/// When the log is taken from another server that has it.
+#[derive(Clone, Copy)]
+pub enum Taking {
+    /// Where that one takes no connections any more. Else it is refused.
+    IfFree,
+    /// Once that one takes no connections any more.
+    OnceFree,
+    /// At once.
+    AtOnce,
 }
 
 /// When the system is asked to keep a journal's bytes, so that they outlive a loss of power.

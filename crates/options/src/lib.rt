@@ -3,16 +3,17 @@
 
 mod address;
 mod asked;
+mod journaling;
 mod limits;
 mod line;
 mod number;
 mod pqx;
 mod pqx_line;
 
-pub use asked::{Journaling, Listening, Mode, Options, Syncing};
+pub use asked::{FileJournal, Journaling, Listening, LogJournal, Mode, Options, Syncing, Taking};
 pub use limits::{
-    DEFAULT_CLIENTS, DEFAULT_DRAW, DEFAULT_PORT, DEFAULT_RECORDS, DEFAULT_WORKERS, MAX_DRAW,
-    MAX_PORT, MAX_WORKERS, limits_are_fixed,
+    DEFAULT_CLIENTS, DEFAULT_DRAW, DEFAULT_PATIENCE, DEFAULT_PORT, DEFAULT_RECORDS,
+    DEFAULT_WORKERS, MAX_DRAW, MAX_PATIENCE, MAX_PORT, MAX_WORKERS, limits_are_fixed,
 };
 pub use line::asked_in;
 pub use number::Misfit;

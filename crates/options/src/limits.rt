@@ -2,6 +2,7 @@
 
 ghost use Rattle.std.specs.Prelude.{◌≡◌};
 ghost use Rattle.options.specs.declared.limits.TheConstants.{DEFAULT_CLIENTS, DEFAULT_RECORDS, DEFAULT_PORT, DEFAULT_WORKERS};
+ghost use Rattle.options.specs.declared.limits.TheConstants.{DEFAULT_PATIENCE, MAX_PATIENCE};
 ghost use Rattle.options.specs.declared.limits.TheConstants.{DEFAULT_DRAW, MAX_DRAW, MAX_POINT, MAX_PORT, MAX_WORKERS};
 
 use crate::number::NumberOption;
@@ -25,6 +26,12 @@ pub const DEFAULT_WORKERS: u32 = 4;
 /// The most workers of a server.
 pub const MAX_WORKERS: u32 = 16;
 
+/// For how many seconds a request to etcd is sent again where `--patience` is not given.
+pub const DEFAULT_PATIENCE: u32 = 60;
+
+/// The most such seconds.
+pub const MAX_PATIENCE: u32 = 86_400;
+
 /// The state at which draws of `pqx` begin where `--draw` is not given.
 pub const DEFAULT_DRAW: u64 = 1;
 
@@ -41,6 +48,7 @@ pub fn limits_are_fixed()
     ensures records { DEFAULT_RECORDS ≡ 256 }
     ensures port { (DEFAULT_PORT ≡ 7070) × (MAX_PORT ≡ 65535) }
     ensures workers { (DEFAULT_WORKERS ≡ 4) × (MAX_WORKERS ≡ 16) }
+    ensures patience { (DEFAULT_PATIENCE ≡ 60) × (MAX_PATIENCE ≡ 86400) }
     ensures draw { (DEFAULT_DRAW ≡ 1) × (MAX_DRAW ≡ 18446744073709551615) }
     ensures point { MAX_POINT ≡ 18446744073709551615 }
 {}
@@ -75,4 +83,12 @@ pub(crate) const WORKERS: NumberOption = NumberOption {
     least: 1,
     most: MAX_WORKERS,
     default: DEFAULT_WORKERS,
+};
+
+/// `--patience S`
+pub(crate) const PATIENCE: NumberOption = NumberOption {
+    name: "patience",
+    least: 1,
+    most: MAX_PATIENCE,
+    default: DEFAULT_PATIENCE,
 };

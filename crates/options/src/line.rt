@@ -1,26 +1,16 @@
 //! What a parse of a command line of `pqd` asks.
 
-ghost use Rattle.std.specs.Prelude.{◌≡◌, ◌↔◌, IfOk, IsTrue, OnErr, Some, codes};
+ghost use Rattle.std.specs.Prelude.{◌≡◌, IfOk, OnErr, Some};
 ghost use Rattle.clap.specs.Words.{first_value, found_of, subcommand_rows_of};
 ghost use Rattle.options.specs.Asked.{AllFit, Asks, IsKnown, ListeningFits, ListensBy};
-ghost use Rattle.options.specs.Asked.{IsSyncing, JournalFits, JournalsBy, CommandAsks, CommandFits, SyncsBy, name_in};
-ghost use Rattle.options.specs.Numbers.{given_text};
+ghost use Rattle.options.specs.Asked.{CommandAsks, CommandFits, name_in};
 
 use crate::address::address;
-use crate::asked::{Journaling, Listening, Mode, Options, Syncing};
+use crate::asked::{Listening, Mode, Options};
+use crate::journaling::{is_set, journaling};
 use crate::limits::{CLIENTS, PORT, RECORDS, WORKERS};
 use crate::number::Misfit;
 use clap::ArgMatches;
-
-/// Whether a flag is given: clap gives it the value `true` then, and else `false`.
-fn is_set(given: &ArgMatches<'_>, flag: &str) -> bool
-    ensures { IsTrue result ↔ (first_value (found_of given.now) flag.now ≡ Some (codes "true")) }
-{
-    match given.get_str(flag) {
-        Some(value) => value == "true",
-        None => false,
-    }
-}
 
 /// Where `serve` listens.
 fn listening(given: &ArgMatches<'_>) -> Result<Listening, Misfit>
@@ -32,38 +22,6 @@ fn listening(given: &ArgMatches<'_>) -> Result<Listening, Misfit>
         port: PORT.read(given.get_str("port"))? as u16,
         workers: WORKERS.read(given.get_str("workers"))?,
     })
-}
-
-/// When a journal's bytes are kept.
-fn syncing(given: Option<&str>) -> Result<Syncing, Misfit>
-    ensures chosen { IfOk result (SyncsBy (given_text given.entry)) }
-    ensures misfit { OnErr result (¬ (IsSyncing (given_text given.entry))) }
-{
-    let Some(text) = given else {
-        return Ok(Syncing::EachSecond);
-    };
-    match text {
-        "always" => Ok(Syncing::Always),
-        "second" => Ok(Syncing::EachSecond),
-        "never" => Ok(Syncing::Never),
-        _ => Err(Misfit::Syncing),
-    }
-}
-
-/// The journal that is asked for, if one is.
-fn journaling<'a>(given: &ArgMatches<'a>) -> Result<Option<Journaling<'a>>, Misfit>
-    ensures asked { IfOk result (JournalsBy (first_value (found_of given.now))) }
-    ensures misfit { OnErr result (¬ (JournalFits (first_value (found_of given.now)))) }
-{
-    let when = given.get_str("sync");
-    let Some(file) = given.get_str("journal") else {
-        return match when {
-            Some(_) => Err(Misfit::Unjournaled),
-            None => Ok(None),
-        };
-    };
-    let syncing = syncing(when)?;
-    Ok(Some(Journaling { file, syncing }))
 }
 
 /// What a command asks with the options that it was given.

@@ -62,6 +62,10 @@ pub enum Misfit {
     Syncing,
     /// `--sync` was given without a journal.
     Unjournaled,
+    /// A journal in etcd is to be kept otherwise than always.
+    NotAlways,
+    /// An option of a journal in etcd was given without one.
+    NoLog,
 }
 
 impl fmt::Display for Misfit {
@@ -76,6 +80,12 @@ impl fmt::Display for Misfit {
             ),
             Misfit::Syncing => f.write_str("the option '--sync' takes always, second or never"),
             Misfit::Unjournaled => f.write_str("the option '--sync' goes with '--journal'"),
+            Misfit::NotAlways => f.write_str(
+                "the option '--sync' takes always alone for a journal in etcd",
+            ),
+            Misfit::NoLog => f.write_str(
+                "the options '--standby', '--take-over' and '--patience' go with '--journal etcd://..'",
+            ),
         }
     }
 }

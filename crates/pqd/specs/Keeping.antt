@@ -1,5 +1,5 @@
 -- What a broker with a journal begins on, and when the journal is kept.
-use Rattle.std.specs.Prelude.{◌≡◌, ℕ, ⊤, Bool, true, false, List, Option, Some, None, IfSome}
+use Rattle.std.specs.Prelude.{◌≡◌, ℕ, ⊤, Bool, true, false, List, [], ◌∷◌, Option, Some, None, IfSome}
 use Rattle.persist.specs.Memory.{words_at_rest}
 use Rattle.named.specs.Brokers.{Brokered, counts_of}
 use Rattle.opening.specs.Opening.{IsOpened, IsReopenedAnew}
@@ -35,3 +35,13 @@ GoesOnFromFile asked (Some f) b = (found : Found) × IsFoundIn (bytes_of f) foun
 -- so it does where the files are known
 abbrev pub GoesOnFromFiles : Options → Option Files → Brokered → Type 0
 GoesOnFromFiles asked files b = IfSome files (λ fs. GoesOnFromFile asked fs.place.file b)
+
+-- it goes on from the words of the journal that has these bytes, if there are any
+abbrev pub GoesOnFromBytes : Options → List ℕ → Brokered → Type 0
+GoesOnFromBytes asked [] b = ⊤
+GoesOnFromBytes asked (first ∷ rest) b =
+    (found : Found) × IsFoundIn (first ∷ rest) found × GoesOnFrom asked found.words.items b
+
+-- so it does where the text of the log is known
+abbrev pub GoesOnFromText : Options → Option (List ℕ) → Brokered → Type 0
+GoesOnFromText asked text b = IfSome text (λ bytes. GoesOnFromBytes asked bytes b)

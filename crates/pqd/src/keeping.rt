@@ -6,16 +6,17 @@ ghost use Rattle.pqd.specs.Keeping.{GoesOnFrom, GoesOnFromFiles, policy_for};
 
 use crate::{Fault, broker_for, fill_places, listener_at, service_of};
 use devices::{CountedReader, CountedWriter};
+use journal_file::Storage;
 use journal_store::{Folder, Found, Store, SystemFolder};
 use lasting::Policy;
 use log::Log;
 use named::Broker;
 use opening::{reopened, reopened_anew};
-use options::{Journaling as Asked, Listening, Mode, Options, Syncing};
-use server::{net_lasting, pipe_lasting};
+use options::{FileJournal, Listening, Mode, Options, Syncing};
+use server::{Service, net_lasting, pipe_lasting};
 use serving::Journaling;
 use std::io;
-use std::net::Net;
+use std::net::{Net, TcpListener};
 use std::sync::Wait;
 use std::thread::Threads;
 use std::time::Clock;
@@ -51,7 +52,11 @@ fn tell_torn<D: Folder + Drop>(
 }
 
 /// The broker that goes on from what the journal left, in fresh records if the options say so.
-fn broker_on(rt: &HostRuntime, asked: &Options<'_>, found: Found) -> Result<Broker, Refusal>
+pub(crate) fn broker_on(
+    rt: &HostRuntime,
+    asked: &Options<'_>,
+    found: Found,
+) -> Result<Broker, Refusal>
     ensures uncalled { IfOk result IsUncalled }
     ensures words { IfOk result (GoesOnFrom asked.now found.words.items) }
 {
@@ -81,16 +86,16 @@ fn broker_from<D: Folder + Drop>(
 
 /// A broker, and the journal that goes on from what it began on.
 #[derive(Drop)]
-struct Kept<D: Folder + Drop> {
-    broker: Broker,
-    journaling: Journaling<Store<D>>,
+pub(crate) struct Kept<S: Storage + Drop> {
+    pub(crate) broker: Broker,
+    pub(crate) journaling: Journaling<S>,
 }
 
 /// Serves standard input to standard output, with a journal. The image that it leaves.
-fn serve_input<T: Threads + Wait + Clock + Sync, D: Folder + Drop + Send>(
+pub(crate) fn serve_input<T: Threads + Wait + Clock + Sync, S: Storage + Drop + Send>(
     threads: &T,
     rt: &HostRuntime,
-    kept: Kept<D>,
+    kept: Kept<S>,
 ) -> Result<Vec<u8>, Fault>
     requires { IsUncalled kept.broker }
 {
@@ -107,26 +112,26 @@ fn serve_input<T: Threads + Wait + Clock + Sync, D: Folder + Drop + Send>(
     Ok(left.image)
 }
 
-/// Serves connections, with a journal. The image that it leaves.
-fn serve_connections<T: Threads + Wait + Net + Log + Clock + Sync, D: Folder + Drop + Send>(
+/// Serves the connections of a listener, with a journal. The image that it leaves.
+pub(crate) fn serve_connections<
+    T: Threads + Wait + Net + Log + Clock + Sync,
+    S: Storage + Drop + Send,
+>(
     threads: &T,
     rt: &HostRuntime,
-    asked: &Options<'_>,
-    kept: Kept<D>,
-    at: Listening,
+    service: Service,
+    kept: Kept<S>,
+    listener: &TcpListener,
 ) -> Result<Vec<u8>, Fault>
     requires { IsUncalled kept.broker }
 {
-    let _places = fill_places(rt);
-    let listener = listener_at(rt, at)?;
-    let service = service_of(at, asked);
     let left = net_lasting(
         threads,
         rt.alloc(),
         kept.broker,
         service,
         kept.journaling,
-        &listener,
+        listener,
     )?;
     Ok(left.image)
 }
@@ -137,7 +142,7 @@ fn kept_in<D: Folder + Drop>(
     asked: &Options<'_>,
     store: Store<D>,
     syncing: Syncing,
-) -> Result<Kept<D>, Fault>
+) -> Result<Kept<Store<D>>, Fault>
     ensures uncalled { IfOk result (λ kept. IsUncalled kept.broker) }
     ensures found { IfOk result (λ kept. GoesOnFromFiles asked.now kept.journaling.storage.files kept.broker) }
     ensures policy { IfOk result (λ kept. kept.journaling.policy ≡ policy_for syncing) }
@@ -155,12 +160,16 @@ pub(crate) fn serve<T: Threads + Wait + Net + Log + Clock + Sync>(
     threads: &T,
     rt: &HostRuntime,
     asked: &Options<'_>,
-    wanted: Asked<'_>,
+    wanted: FileJournal<'_>,
 ) -> Result<Vec<u8>, Fault> {
     let store = Store::new(SystemFolder::open(rt, wanted.file)?);
     let kept = kept_in(rt, asked, store, wanted.syncing)?;
     match asked.mode {
         Mode::Pipe => serve_input(threads, rt, kept),
-        Mode::Serve(at) => serve_connections(threads, rt, asked, kept, at),
+        Mode::Serve(at) => {
+            let _places = fill_places(rt);
+            let listener = listener_at(rt, at)?;
+            serve_connections(threads, rt, service_of(at, asked), kept, &listener)
+        }
     }
 }

@@ -7,13 +7,16 @@ ghost use Rattle.pqd.specs.declared.Fault.TheVariants.{Refused};
 
 mod image;
 mod keeping;
+mod logging;
+mod standby;
 
 use command_lines::command_line;
 use devices::{CountedReader, CountedWriter};
+use etcd_log::Undone;
 use log::Log;
 use named::Broker;
 use opening::{opened, renewed};
-use options::{Listening, Mode, Options};
+use options::{Journaling, Listening, Mode, Options};
 use server::{Service, net};
 use serving::{Unserved, pipe};
 use std::fs::File;
@@ -39,6 +42,18 @@ enum Fault {
     /// What was done could not be kept in the journal, and so no reply tells of it.
     #[error("31 NotKept")]
     NotKept,
+    /// The log is another server's by now.
+    #[error("34 TakenOver")]
+    TakenOver,
+    /// No member of etcd answers.
+    #[error("35 NoEngine")]
+    NoEngine,
+    /// What etcd has is no log.
+    #[error("36 BadLog")]
+    BadLog,
+    /// What is given is no log's address.
+    #[error("the option '--journal' takes a file, or etcd://HOST:PORT,../NAME")]
+    Address,
 }
 
 impl From<Refusal> for Fault {
@@ -52,6 +67,17 @@ impl From<Refusal> for Fault {
 impl From<journal_store::Fault> for Fault {
     fn from(fault: journal_store::Fault) -> Fault {
         Fault::Journal(fault)
+    }
+}
+
+impl From<Undone> for Fault {
+    fn from(undone: Undone) -> Fault {
+        match undone {
+            Undone::TakenOver => Fault::TakenOver,
+            Undone::NoEngine => Fault::NoEngine,
+            Undone::NoMemory => Fault::Refused(Refusal::NoMemory),
+            Undone::BadAnswer | Undone::Full | Undone::Missing => Fault::BadLog,
+        }
     }
 }
 
@@ -99,24 +125,35 @@ fn fill_places(rt: &HostRuntime) -> [io::Result<File>; 3] {
     ]
 }
 
-/// A listener of the address, once it has said where it listens, and who is served there where that is not this machine
-/// alone.
-fn listener_at(rt: &HostRuntime, at: Listening) -> Result<TcpListener, Fault> {
+/// A listener of the address, with the one that it has.
+fn bound(rt: &HostRuntime, at: Listening) -> Result<(TcpListener, SocketAddr), Fault> {
     let Ok(listener) = TcpListener::bind(rt, SocketAddr::from((at.address, at.port))) else {
         return Err(Fault::Listen);
     };
-    let Ok(address) = listener.local_addr() else {
-        return Err(Fault::Listen);
-    };
+    match listener.local_addr() {
+        Ok(address) => Ok((listener, address)),
+        Err(_) => Err(Fault::Listen),
+    }
+}
+
+/// Says where it listens, and who is served there where that is not this machine alone.
+fn tell_address(rt: &HostRuntime, at: Listening, address: SocketAddr) -> Result<(), Fault> {
     if !at.address.is_loopback() {
         let said = eprintln!(rt; "pqd: whoever reaches {address} is served: there is no password");
         if said.is_err() {
             return Err(Fault::Refused(Refusal::WriteFailed));
         }
     }
-    if println!(rt; "listening {address}").is_err() {
-        return Err(Fault::Refused(Refusal::WriteFailed));
+    match println!(rt; "listening {address}") {
+        Ok(()) => Ok(()),
+        Err(_) => Err(Fault::Refused(Refusal::WriteFailed)),
     }
+}
+
+/// A listener of the address, once it has said where it listens.
+fn listener_at(rt: &HostRuntime, at: Listening) -> Result<TcpListener, Fault> {
+    let (listener, address) = bound(rt, at)?;
+    tell_address(rt, at, address)?;
     Ok(listener)
 }
 
@@ -163,7 +200,8 @@ fn serve<T: Threads + Wait + Net + Log + Clock + Sync>(
     asked: Options<'_>,
 ) -> Result<(), Fault> {
     let image = match asked.journal {
-        Some(journaling) => keeping::serve(threads, rt, &asked, journaling)?,
+        Some(Journaling::InFile(wanted)) => keeping::serve(threads, rt, &asked, wanted)?,
+        Some(Journaling::InLog(wanted)) => logging::serve(threads, rt, &asked, wanted)?,
         None => serve_in_memory(threads, rt, &asked)?,
     };
     if let Some(path) = asked.image {

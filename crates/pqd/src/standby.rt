@@ -1,0 +1,95 @@
+//! Waiting for a log that another server has. Nothing is safe by it: whoever takes a log may do so at any time.
+
+use crate::Fault;
+use etcd_log::{Exchange, ask_tail};
+use etcd_net::is_reached;
+use etcd_text::tail_in;
+use journal_store::Fault as Unused;
+use options::Taking;
+use std::net::SocketAddr;
+use std::str;
+use std::thread::sleep;
+use std::time::Duration;
+use words::Refusal;
+
+/// How long it rests before it looks again whether the server that has the log is there.
+const LOOK_MILLIS: u64 = 500;
+
+/// How many looks in a row have to be in vain before that one is taken to be gone.
+const VAIN_LOOKS: u32 = 3;
+
+/// Where an owner of this name is to be found, if anywhere: its name is its address, a slash and what was drawn.
+fn place_of(owner: &[u8]) -> Option<SocketAddr> {
+    let text = str::from_utf8(owner).ok()?;
+    let (place, _drawn) = text.split_once('/')?;
+    place.parse::<SocketAddr>().ok()
+}
+
+/// Where the owner of the log is to be found, if it has one who is.
+fn owner_of<X: Exchange>(exchange: &mut X) -> Result<Option<SocketAddr>, Fault> {
+    let Some(text) = ask_tail(exchange)? else {
+        return Ok(None);
+    };
+    match tail_in(&text) {
+        Some(tail) => Ok(place_of(tail.owner)),
+        None => Err(Fault::BadLog),
+    }
+}
+
+/// Says which server has the log.
+fn tell_owner(rt: &HostRuntime, address: SocketAddr) -> Result<(), Fault> {
+    match eprintln!(rt; "pqd: {address} serves") {
+        Ok(()) => Ok(()),
+        Err(_) => Err(Fault::Refused(Refusal::WriteFailed)),
+    }
+}
+
+/// Refuses where the server that has the log takes connections (InUse).
+fn find_free<X: Exchange>(rt: &HostRuntime, exchange: &mut X) -> Result<(), Fault> {
+    match owner_of(exchange)? {
+        Some(address) if is_reached(rt, address) => {
+            tell_owner(rt, address)?;
+            Err(Fault::Journal(Unused::InUse))
+        }
+        _ => Ok(()),
+    }
+}
+
+/// Waits until the server that has the log takes no connections, and says whose it is whenever that changes.
+fn stand_by<X: Exchange>(rt: &HostRuntime, exchange: &mut X) -> Result<(), Fault> {
+    let mut told = None;
+    let mut vain: u32 = 0;
+    for _ in 0..u64::MAX {
+        let Some(address) = owner_of(exchange)? else {
+            return Ok(());
+        };
+        if told != Some(address) {
+            tell_owner(rt, address)?;
+            told = Some(address);
+            vain = 0;
+        }
+        vain = if is_reached(rt, address) {
+            0
+        } else {
+            vain.saturating_add(1)
+        };
+        if vain >= VAIN_LOOKS {
+            return Ok(());
+        }
+        sleep(rt, Duration::from_millis(LOOK_MILLIS));
+    }
+    Ok(())
+}
+
+/// Waits until the log may be taken that is to be taken so.
+pub(crate) fn wait_for<X: Exchange>(
+    rt: &HostRuntime,
+    exchange: &mut X,
+    taking: Taking,
+) -> Result<(), Fault> {
+    match taking {
+        Taking::AtOnce => Ok(()),
+        Taking::IfFree => find_free(rt, exchange),
+        Taking::OnceFree => stand_by(rt, exchange),
+    }
+}
