@@ -37,7 +37,7 @@ const MAX_CONNECTIONS: usize = 1_024;
 /// How connections are served.
 #[derive(Clone, Copy)]
 pub struct Service {
-    /// How many threads serve, each one connection at a time. One serves at least.
+    /// How many threads serve, each the connections that it was given. One serves at least.
     pub workers: u32,
     /// Whether a queue begins in fresh records for a put or a take that finds no room, where that is worth it.
     pub renew: bool,
@@ -281,11 +281,12 @@ fn served<J: Naming + Send + Sync, R: Threads + Wait + Net + Clock + Log + Sync>
     }
 }
 
-/// Serves each connection of a listener by a worker thread, until a stop is accepted and all connections have ended; it
-/// answers the image of the broker as it is then. As many connections as there are
-/// workers wait to be served; those that wait at an accepted stop are closed unserved. It is refused before any is
-/// taken where a call or a creation is under way (Busy), and for want of memory (NoMemory); for want of memory also
-/// after all have ended. Where the threads to take connections and to serve them cannot be made, it does not return.
+/// Serves the connections of a listener by worker threads, until a stop is accepted and all connections have ended; it
+/// answers the image of the broker as it is then. Each connection is given to the worker that has the fewest; beyond
+/// 1,024 one is told Full, and closed. Those that come after an accepted stop are closed unserved. It is refused before
+/// any is taken where a call or a creation is under way (Busy), and for want of memory, or of descriptors to wait with
+/// (NoMemory); for want of memory also after all have ended. Where the threads to take connections and to serve them
+/// cannot be made, it does not return.
 pub fn net<R: Threads + Wait + Net + Clock + Log + Sync>(
     rt: &R,
     alloc: Global,

@@ -57,6 +57,7 @@ fn send_and_serve<W: Worker, R: Wait>(
     let (worker, served) = worker.serve(rt, alloc, reader, writer);
     match served {
         Ok(()) => (worker, Ok(true)),
+        Err(_) if reader.is_between() => (worker, Ok(true)),
         Err(failure) => (worker, Err(failure)),
     }
 }

@@ -32,7 +32,7 @@ pub enum Flow {
 }
 
 /// The reader of a connection for one turn. It hands on whole lines, and the last one, which may have no newline, at the
-/// end. Where nothing more is there for now, it is at its end as its caller sees it, and [`Incoming::flow`] says more.
+/// end. Where nothing more is there for now it fails, as its caller sees it, and [`Incoming::flow`] says that it waits.
 #[derive(Drop)]
 pub struct Incoming<'a> {
     socket: &'a TcpStream,
@@ -60,6 +60,11 @@ impl<'a> Incoming<'a> {
     /// What becomes of the input, as far as it was read.
     pub fn flow(&self) -> Flow {
         self.flow
+    }
+
+    /// Whether the turn is over, and more may come in another one.
+    pub fn is_between(&self) -> bool {
+        self.flow == Flow::Waits || self.flow == Flow::Paused
     }
 
     /// The beginning of a line whose end did not come yet.
@@ -107,7 +112,7 @@ impl<'a> Incoming<'a> {
             Err(error) => match error.kind() {
                 ErrorKind::WouldBlock => {
                     self.flow = Flow::Waits;
-                    Ok(0)
+                    Err(Failed)
                 }
                 ErrorKind::Interrupted => Ok(0),
                 _ => Err(Failed),
@@ -128,7 +133,7 @@ impl<'a> Incoming<'a> {
             }
         }
         self.flow = Flow::Paused;
-        Ok(0)
+        Err(Failed)
     }
 }
 
