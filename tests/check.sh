@@ -1,8 +1,9 @@
 #!/usr/bin/env bash
 # What pqx check says of recordings: the rows of tests/check/rows, each NAME.in with what is wanted of it on standard
 # output (NAME.out) and on standard error (NAME.err); entries of orders; drawn recordings, of one queue and of several,
-# against brute force; devices that fail, and memory; histories of Jepsen (tests/check/jepsen). It takes the program that the last `rt ci`, or `rt run` in crates/pqx,
-# left, or the one that PQX names.
+# and with values that are put more than once, against brute force; devices that fail, and memory; histories of Jepsen
+# (tests/check/jepsen). It takes the program that the last `rt ci`, or `rt run` in crates/pqx, left, or the one that PQX
+# names.
 set -eu
 cd "$(dirname "$0")/.."
 . tests/cases.sh
@@ -14,7 +15,7 @@ rows=tests/check/rows
 wanted_status() {
     [ ! -e "$rows/$1.err" ] || { echo 2; return; }
     if grep -qE '^(queue .*: )?impossible' "$rows/$1.out"; then echo 1; return; fi
-    if grep -qE '^(queue .*: )?unknown' "$rows/$1.out"; then echo 3; else echo 0; fi
+    if grep -qE '^(queue .*: )?undecided' "$rows/$1.out"; then echo 3; else echo 0; fi
 }
 
 for row in "$rows"/*.in; do
@@ -58,8 +59,16 @@ compare 'check to a full output' 1 "$status" /dev/null "$work/wanted"
 
 # Drawn recordings, each as brute force says, and what it names is in the recording.
 status=0
-PQX=$pqx python3 -B tests/check/drawn.py 4000 1 > "$work/out" 2>&1 || status=$?
+PQX=$pqx python3 -B tests/check/drawn.py 1000 1 > "$work/out" 2>&1 || status=$?
 judge 'drawn recordings' "$([ "$status" -eq 0 ] || tail -n 3 "$work/out")"
+status=0
+PQX=$pqx python3 -B tests/check/drawn.py 20000 1 100 > "$work/out" 2>&1 || status=$?
+judge 'drawn recordings, many at once' "$([ "$status" -eq 0 ] || tail -n 3 "$work/out")"
+
+# Drawn recordings in which values are put more than once.
+status=0
+PQX=$pqx python3 -B tests/check/repeated.py 10000 1 > "$work/out" 2>&1 || status=$?
+judge 'drawn recordings with repeated values' "$([ "$status" -eq 0 ] || tail -n 3 "$work/out")"
 
 # Drawn recordings of several queues.
 status=0

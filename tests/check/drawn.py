@@ -1,10 +1,10 @@
 #!/usr/bin/env python3
 # Draws small recordings of queues, and compares what `pqx check` says of each with brute force: whether an order explains
 # it, and otherwise the first line with which there is none. COUNT recordings are drawn, from SEED on: runs of a queue that
-# is right, such runs with answers changed, and lines that mean anything; some are written as whole calls with times. PQX
-# names the program.
-import json, os, random, subprocess, sys
-from concurrent.futures import ThreadPoolExecutor
+# is right, such runs with answers changed, and lines that mean anything; some are written as whole calls with times.
+# With BATCH, so many are read by one run of the program, each as a queue of its own. PQX names the program.
+import json, os, random, re, subprocess, sys
+from concurrent.futures import ProcessPoolExecutor
 import brute
 
 PROGRAM = os.environ.get("PQX", os.path.join(os.path.dirname(__file__), "../../crates/pqx/out/pqx"))
@@ -145,7 +145,7 @@ def some_answer(draw, op):
 
 
 def as_whole_calls(draw, lines):
-    """The lines as whole calls with times, in any order, and what each time is called."""
+    """The lines as whole calls with times, in any order, and the line and the time of each."""
     calls, under_way, first, last = [], {}, [], []
     for time, line in enumerate(lines, 1):
         if "base" in line:
@@ -161,19 +161,19 @@ def as_whole_calls(draw, lines):
         elif line["reply"] != "unknown":
             under_way[line["client"]].update({"to": time, **line})
     draw.shuffle(calls)
-    names = {len(lines): f"line {len(first) + len(calls) + 1}"}
+    names = {len(lines): (len(first) + len(calls) + 1, None)}
     for number, call in enumerate(calls, len(first) + 1):
-        names.update({call[key]: f"line {number} (time {call[key]})" for key in ("from", "to", "at") if key in call})
+        names.update({call[key]: (number, call[key]) for key in ("from", "to", "at") if key in call})
     return first + calls + last, names
 
 
 def written(seed):
-    """A recording, the lines that it is written in, and what each of its lines is called."""
+    """A recording, the lines that it is written in, and the number and the time of each of its lines there."""
     lines = drawn(seed)
     draw = random.Random(-seed)
     if draw.random() < 0.2 and not any("told" in line for line in lines):
         return lines, *as_whole_calls(draw, lines)
-    return lines, lines, {number: f"line {number}" for number in range(1, len(lines) + 1)}
+    return lines, lines, {number: (number, None) for number in range(1, len(lines) + 1)}
 
 
 def drawn(seed):
@@ -192,33 +192,96 @@ def said(lines):
     return ran.returncode, ran.stdout, ran.stderr
 
 
-def wanted(lines, names):
-    line = brute.first_bad(lines)
-    return (0, "explained: ") if line is None else (1, f"impossible from {names[line]} on: ")
+def called(name, lines_before=0, time_before=0):
+    """What the program calls a line, where so many lines stand before the recording, and times are later by so much."""
+    line, time = name
+    return f"line {lines_before + line}" + (f" (time {time_before + time})" if time else "")
 
 
 def compare(seed):
+    """What is wrong with what is said of a recording, and whether it has an order."""
     recorded, lines, names = written(seed)
+    bad = brute.first_bad(recorded)
+    want = (0, "explained: ") if bad is None else (1, f"impossible from {called(names[bad])} on: ")
     status, out, err = said(lines)
-    want = wanted(recorded, names)
     if (status, err) == (want[0], "") and out.startswith(want[1]):
-        return want[0], None
+        return None, bad is None
+    return failure(seed, lines, want, (status, out, err)), bad is None
+
+
+def failure(seed, lines, want, got):
     text = "\n".join(json.dumps(line) for line in lines)
-    return want[0], f"FAILED: recording {seed}: wanted {want}, got {status} {out!r} {err!r}\n{text}"
+    return f"FAILED: recording {seed}: wanted {want}, got {got}\n{text}"
+
+
+def later(line, time):
+    """The line, with its times later by so much."""
+    return {key: value + time if key in ("from", "to", "at") else value for key, value in line.items()}
+
+
+def joined(recordings):
+    """Recordings as queues of one: its lines, and for each what the program has to say of it. A crash is of all queues; for
+    those before and behind it comes after, or before, all that happens there."""
+    lines, wanted, time = [], {}, 0
+    for seed, (recorded, own, names) in recordings:
+        bad = brute.first_bad(recorded)
+        wanted[str(seed)] = None if bad is None else called(names[bad], len(lines), time)
+        name = {"queue": seed}
+        lines += [later(line if line.get("op") == "crash" else {**name, **line}, time) for line in own]
+        time += len(recorded) + 1
+    return lines, wanted
+
+
+def compare_joined(recordings):
+    """What is wrong with what is said of recordings, as queues of one."""
+    lines, wanted = joined(recordings)
+    status, out, err = said(lines)
+    found = re.findall(r"^queue (\d+): (?:(explained): |impossible from (line \d+(?: \(time \d+\))?) on: )", out, re.M)
+    got = {seed: None if explained else line for seed, explained, line in found}
+    # (a recording of crashes alone names no queue)
+    for seed, line in [(seed, line) for seed, line in wanted.items() if seed not in got and line is None]:
+        if all(line.get("op") == "crash" for line in dict(recordings)[int(seed)][1]):
+            del wanted[seed]
+    if got == wanted and err == "" and status == (1 if any(wanted.values()) else 0):
+        return []
+    wrong = [seed for seed in wanted if seed not in got or got[seed] != wanted[seed]] or [str(recordings[0][0])]
+    return [failure(int(it), dict(recordings)[int(it)][1], wanted.get(it), (got.get(it), status, err)) for it in wrong]
+
+
+def compare_batch(seeds):
+    """The same of the recordings from one seed up to another, those with times and those without apart."""
+    drawn_ones = [(seed, written(seed)) for seed in range(*seeds)]
+    timed = [it for it in drawn_ones if it[1][0] is not it[1][1]]
+    plain = [it for it in drawn_ones if it[1][0] is it[1][1]]
+    failures = [failure for part in (timed, plain) if part for failure in compare_joined(part)]
+    explained = sum(brute.first_bad(it[1][0]) is None for it in drawn_ones)
+    return failures, explained, len(drawn_ones)
+
+
+def compare_alone(seeds):
+    failures, explained = [], 0
+    for seed in range(*seeds):
+        failure, is_explained = compare(seed)
+        failures += [failure] if failure else []
+        explained += is_explained
+    return failures, explained, seeds[1] - seeds[0]
 
 
 def main():
     count, seed = int(sys.argv[1]), int(sys.argv[2])
-    counts, failed = [0, 0], 0
-    with ThreadPoolExecutor(max_workers=4) as pool:
-        for status, failure in pool.map(compare, range(seed, seed + count)):
-            counts[status] += 1
-            if failure:
+    batch = int(sys.argv[3]) if len(sys.argv) > 3 else 1
+    step = batch if batch > 1 else 100
+    parts = [(it, min(it + step, seed + count)) for it in range(seed, seed + count, step)]
+    explained, played, failed = 0, 0, 0
+    with ProcessPoolExecutor(max_workers=int(os.environ.get("WORKERS", "4"))) as pool:
+        for failures, some, number in pool.map(compare_batch if batch > 1 else compare_alone, parts):
+            explained, played = explained + some, played + number
+            for it in failures:
                 failed += 1
                 if failed <= 5:
-                    print(failure)
-    print(f"drawn recordings from {seed} on: {counts[0]} that an order explains, {counts[1]} that none does")
-    print(f"{count - failed} passed, {failed} failed")
+                    print(it)
+    print(f"drawn recordings from {seed} on: {explained} that an order explains, {played - explained} that none does")
+    print(f"{played - failed} passed, {failed} failed")
     sys.exit(1 if failed else 0)
 
 

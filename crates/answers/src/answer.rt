@@ -1,10 +1,12 @@
 //! The answer: an order, or the first step with which there is none.
 
-ghost use Rattle.std.specs.Prelude.{◌≡◌, ◌<◌, ◌≤◌, length, IfOk, IfSome};
-ghost use Rattle.answers.specs.Answers.{IsExplanation, IsRefutation, IsRight};
+ghost use Rattle.std.specs.Prelude.{◌≡◌, ◌<◌, ◌≤◌, length, IfOk, IfSome, IsSome};
+ghost use Rattle.findings.specs.Filling.{IsRecordedOfAny};
+ghost use Rattle.answers.specs.Answers.{IsExplanation, IsFound, IsOfOneQueue, IsRefutation, IsRight};
 
+use deciding::has_order;
 use events::{Entry, Order, Sequence};
-use findings::{Lack, Witness, explains_findings, is_recorded, refutes};
+use findings::{Findings, Lack, Witness, explains_findings, is_of_queue, is_recorded, refutes};
 use prefixes::{Prefix, findings_of, prefix_of};
 use recording::Recording;
 use seeking::{Found, search};
@@ -16,17 +18,42 @@ pub trait Watch {
     fn look(&mut self, steps: usize);
 }
 
-/// What is said of a recording. Each answer but Unknown was judged.
+/// What is said of a recording.
 #[derive(Drop)]
 pub enum Answer {
     Explained(Prefix, Order),
     /// No order explains the first steps, up to this prefix, and one explains those before the last of them.
     Impossible(Prefix, Witness, Order),
-    Unknown,
+    /// An order explains all steps; the search found none that does.
+    SomeOrder,
+    /// No order does; the search found no witness of that.
+    NoOrder,
 }
 
-/// The order, where it explains the first so many steps.
+/// The order, where it explains what the first so many steps come to.
 fn judge_order(
+    alloc: Global,
+    recording: &Recording,
+    count: usize,
+    findings: &Findings,
+    entries: Vec<Entry>,
+) -> Result<Option<Order>, AllocError>
+    requires found { IsFound recording.now count findings.now }
+    requires recorded { IsRecordedOfAny findings.now.events findings.now.learnt }
+    ensures { IfOk result (λ found. IfSome found (λ order. IsExplanation recording.now count order)) }
+{
+    let order = Order {
+        entries: Sequence::from_vec(entries),
+    };
+    if explains_findings(alloc, findings, &order)? {
+        Ok(Some(order))
+    } else {
+        Ok(None)
+    }
+}
+
+/// The order, where it explains the first so many steps, and these are seen to be those of a recording.
+pub(crate) fn judge_order_of_first(
     alloc: Global,
     recording: &Recording,
     count: usize,
@@ -35,17 +62,11 @@ fn judge_order(
     ensures { IfOk result (λ found. IfSome found (λ order. IsExplanation recording.now count order)) }
 {
     let findings = findings_of(alloc, recording, count)?;
-    let order = Order {
-        entries: Sequence::from_vec(entries),
-    };
     if !is_recorded(alloc, &findings)? {
         return Ok(None);
     }
-    if explains_findings(alloc, &findings, &order)? {
-        Ok(Some(order))
-    } else {
-        Ok(None)
-    }
+    let found = judge_order(alloc, recording, count, &findings, entries)?;
+    Ok(found)
 }
 
 /// The witness, where it shows that no order explains the first so many steps.
@@ -120,12 +141,13 @@ fn end_of(whole: &Prefix, place: usize) -> usize {
     }
 }
 
-/// What is known of the first step with which there is no order: it comes after `low` steps, and by `high` steps.
+/// What is known of the first step with which there is no order: it comes after `low` steps, and by `high` steps. All that
+/// the witness names is known after `bound` steps.
 #[derive(Drop)]
 struct Between {
     low: usize,
     high: usize,
-    order: Vec<Entry>,
+    bound: usize,
     witness: Witness,
     is_lost: bool,
 }
@@ -141,13 +163,11 @@ impl Between {
     ) -> Result<(), AllocError> {
         watch.look(count);
         let prefix = prefix_of(alloc, recording, count)?;
-        match search(alloc, &prefix.calls)? {
-            Found::Order(order) => {
-                self.low = count;
-                self.order = order;
-            }
+        match search(alloc, &prefix.calls, false)? {
+            Found::Order(_) => self.low = count,
             Found::Witness(witness) => {
                 self.high = count;
+                self.bound = bound(recording, &prefix, &witness);
                 self.witness = witness;
             }
             Found::Nothing => self.is_lost = true,
@@ -157,6 +177,23 @@ impl Between {
 
     fn is_open(&self) -> bool {
         !self.is_lost && self.low.saturating_add(1) < self.high
+    }
+
+    /// Goes to where all is known that the witness names, as long as there is one.
+    fn follow<W: Watch>(
+        &mut self,
+        alloc: Global,
+        recording: &Recording,
+        watch: &mut W,
+    ) -> Result<(), AllocError> {
+        for _ in 0..8u8 {
+            let count = self.bound;
+            if !self.is_open() || count <= self.low || count >= self.high {
+                return Ok(());
+            }
+            self.look(alloc, recording, count, watch)?;
+        }
+        Ok(())
     }
 
     /// Steps down from above, further and further.
@@ -198,74 +235,136 @@ impl Between {
     }
 }
 
-/// Judges both sides of the step with which there is no order any more.
-fn judged(alloc: Global, recording: &Recording, between: Between) -> Result<Answer, AllocError>
-    ensures { IfOk result (λ answer. IsRight recording.now answer) }
+/// Judges both sides of the step with which there is no order any more; nothing, if a judge refuses one.
+fn judged(
+    alloc: Global,
+    recording: &Recording,
+    between: Between,
+) -> Result<Option<Answer>, AllocError>
+    ensures { IfOk result (λ found. IfSome found (λ answer. IsRight recording.now answer)) }
 {
     let Between {
         low,
         high,
-        order,
+        bound: _,
         witness,
         is_lost,
     } = between;
     if is_lost || high == 0 || low != high - 1 || high > recording.steps.len() {
-        return Ok(Answer::Unknown);
+        return Ok(None);
     }
-    let Some(order) = judge_order(alloc, recording, low, order)? else {
-        return Ok(Answer::Unknown);
+    let before = prefix_of(alloc, recording, low)?;
+    let Found::Order(entries) = search(alloc, &before.calls, true)? else {
+        return Ok(None);
+    };
+    let Some(order) = judge_order_of_first(alloc, recording, low, entries)? else {
+        return Ok(None);
     };
     let Some(witness) = judge_witness(alloc, recording, high, witness)? else {
-        return Ok(Answer::Unknown);
+        return Ok(None);
     };
     let prefix = prefix_of(alloc, recording, high)?;
-    Ok(Answer::Impossible(prefix, witness, order))
+    Ok(Some(Answer::Impossible(prefix, witness, order)))
 }
 
-/// Finds the first step with which there is no order.
+/// Finds the first step with which there is no order; nothing, if that is not seen.
 fn first<W: Watch>(
     alloc: Global,
     recording: &Recording,
     whole: &Prefix,
     witness: Witness,
     watch: &mut W,
-) -> Result<Answer, AllocError>
-    ensures { IfOk result (λ answer. IsRight recording.now answer) }
+) -> Result<Option<Answer>, AllocError>
+    ensures { IfOk result (λ found. IfSome found (λ answer. IsRight recording.now answer)) }
 {
     let mut between = Between {
         low: 0,
         high: recording.steps.len(),
-        order: Vec::new(alloc),
+        bound: bound(recording, whole, &witness),
         witness,
         is_lost: false,
     };
-    let by = bound(recording, whole, &between.witness);
-    if by < between.high {
-        between.look(alloc, recording, by, watch)?;
-    }
+    between.follow(alloc, recording, watch)?;
     between.step_down(alloc, recording, watch)?;
     between.halve(alloc, recording, watch)?;
-    judged(alloc, recording, between)
+    let found = judged(alloc, recording, between)?;
+    Ok(found)
 }
 
-/// Whether an order explains the recording, or why none does. What the search finds is judged against what the steps
-/// come to: an order by the judge of orders, and a witness by the judge of witnesses. Where a judge refuses what
-/// was found, or nothing was, the answer is Unknown.
+/// What the search finds, if its judge takes it.
+pub(crate) fn searched<W: Watch>(
+    alloc: Global,
+    recording: &Recording,
+    findings: Findings,
+    watch: &mut W,
+) -> Result<Option<Answer>, AllocError>
+    requires found { IsFound recording.now (length recording.now.steps.items) findings }
+    requires recorded { IsRecordedOfAny findings.events findings.learnt }
+    ensures { IfOk result (λ found. IfSome found (λ answer. IsRight recording.now answer)) }
+{
+    let count = recording.steps.len();
+    let whole = prefix_of(alloc, recording, count)?;
+    watch.look(count);
+    match search(alloc, &whole.calls, true)? {
+        Found::Order(entries) => {
+            let found = judge_order(alloc, recording, count, &findings, entries)?;
+            match found {
+                Some(order) => Ok(Some(Answer::Explained(whole, order))),
+                None => Ok(None),
+            }
+        }
+        Found::Witness(witness) => {
+            // (the search for the first step needs room)
+            drop(findings);
+            let found = first(alloc, recording, &whole, witness, watch)?;
+            Ok(found)
+        }
+        Found::Nothing => Ok(None),
+    }
+}
+
+/// Whether an order explains all steps, decided without the search, and slowly.
+fn decided(alloc: Global, recording: &Recording) -> Result<Answer, AllocError>
+    requires { IsOfOneQueue recording.now }
+    ensures { IfOk result (λ answer. IsRight recording.now answer) }
+{
+    let findings = findings_of(alloc, recording, recording.steps.len())?;
+    if has_order(alloc, &findings)? {
+        return Ok(Answer::SomeOrder);
+    }
+    Ok(Answer::NoOrder)
+}
+
+/// What the steps come to, if that is seen to be a recording of a queue.
+pub fn seen(alloc: Global, recording: &Recording) -> Result<Option<Findings>, AllocError>
+    ensures found { IfOk result (λ seen. IfSome seen
+        (λ findings. IsFound recording.now (length recording.now.steps.items) findings)) }
+    ensures of_queue { IfOk result (λ seen. IsSome seen → IsOfOneQueue recording.now) }
+{
+    let findings = findings_of(alloc, recording, recording.steps.len())?;
+    if is_of_queue(alloc, &findings)? {
+        Ok(Some(findings))
+    } else {
+        Ok(None)
+    }
+}
+
+/// Whether an order explains the recording, or why none does; the findings are what its steps come to. What the search
+/// finds is judged: an order by the judge of orders, and a witness by the judge of witnesses. Where a judge refuses what
+/// was found, or nothing was, it is decided without the search, in a time that rises with the fourth power of the steps.
 pub fn answer_of<W: Watch>(
     alloc: Global,
     recording: &Recording,
+    findings: Findings,
     watch: &mut W,
 ) -> Result<Answer, AllocError>
+    requires found { IsFound recording.now (length recording.now.steps.items) findings }
+    requires of_queue { IsOfOneQueue recording.now }
     ensures { IfOk result (λ answer. IsRight recording.now answer) }
 {
-    let whole = prefix_of(alloc, recording, recording.steps.len())?;
-    watch.look(recording.steps.len());
-    match search(alloc, &whole.calls)? {
-        Found::Order(order) => match judge_order(alloc, recording, recording.steps.len(), order)? {
-            Some(order) => Ok(Answer::Explained(whole, order)),
-            None => Ok(Answer::Unknown),
-        },
-        Found::Witness(witness) => first(alloc, recording, &whole, witness, watch),
-        Found::Nothing => Ok(Answer::Unknown),
+    if let Some(answer) = searched(alloc, recording, findings, watch)? {
+        return Ok(answer);
     }
+    let answer = decided(alloc, recording)?;
+    Ok(answer)
 }

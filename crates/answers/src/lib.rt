@@ -2,5 +2,7 @@
 #![tactic(auto)]
 
 mod answer;
+mod repeated;
 
-pub use answer::{Answer, Watch, answer_of};
+pub use answer::{Answer, Watch, answer_of, seen};
+pub use repeated::{Repeated, answer_of_repeated};

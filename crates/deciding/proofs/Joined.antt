@@ -1,13 +1,13 @@
 -- Tables of a recording are its calls.
-use Rattle.std.proofs.Common.{ℕ, ◌≡◌, ◌<◌, ◌≤◌, ◌⊎◌, ◌↔◌, List, Option, Some, None, length, get_or, inl, inr, refl, sym, ◌∙◌}
-use Rattle.std.proofs.Common.{subst, arith, Bool, true, false}
-use Rattle.std.specs.Prelude.{IsTrue, IsFalse}
-use Rattle.std.proofs.lemmas.Bool.{cases_lt, false≢true}
+use Rattle.std.proofs.Common.{ℕ, ◌≡◌, ◌<◌, ◌≤◌, ◌⊎◌, List, Option, Some, None, length, get_or, inl, inr, refl, sym, ◌∙◌}
+use Rattle.std.proofs.Common.{subst, arith}
+use Rattle.std.proofs.lemmas.Bool.{cases_lt}
 use Rattle.std.proofs.lemmas.List.{get_or_past, get_or_default}
 use Rattle.words.specs.declared.call.Call.{Call}
 use Rattle.words.specs.declared.told.Outcome.{Outcome}
 use Rattle.events.specs.declared.event.Event.{Event}
 use Rattle.events.specs.Replay.{call_at}
+use Rattle.findings.specs.Findings.{HasNoOrder}
 use Rattle.findings.specs.FourPatterns.{IsOfQueue, HasPattern, HasOrder}
 use Rattle.findings.proofs.Offered.{Means, means_none, HasMeaning, calls_of, are_calls, order, explains, pattern_is, end_at}
 use Rattle.findings.proofs.Offered.{place_end, pattern_refutes, within_events}
@@ -63,13 +63,9 @@ module _ (events : List Event) (learnt : List (Option Outcome)) (knows : List Kn
   pub are : AreCalls (calls_by knows ends)
   are = subst (λ (c : Calls). AreCalls c) (sym same_calls) (are_calls events learnt meaning)
 
-  pub order_if : (yes : Bool) → IsOfQueue events learnt
-      → (IsTrue yes → (steps : List Step) × Explain (calls_by knows ends) steps)
-      → (IsFalse yes → Pattern (calls_by knows ends)) → (IsTrue yes ↔ HasOrder events learnt)
-  order_if truth is explained pattern = (
-    (λ truly. has (subst (λ (c : Calls). (steps : List Step) × Explain c steps) same_calls (explained truly))),
-    back truth pattern,
-  )
+  pub order_if : IsOfQueue events learnt → (steps : List Step) × Explain (calls_by knows ends) steps
+      → HasOrder events learnt
+  order_if is explained = has (subst (λ (c : Calls). (steps : List Step) × Explain c steps) same_calls explained)
     where
       has : (steps : List Step) × Explain (calls_of events learnt meaning) steps → HasOrder events learnt
       has (steps, explain) = record {
@@ -77,16 +73,11 @@ module _ (events : List Event) (learnt : List (Option Outcome)) (knows : List Kn
         explains = explains events learnt is meaning steps explain;
       }
 
-      back : (b : Bool) → (IsFalse b → Pattern (calls_by knows ends)) → HasOrder events learnt → IsTrue b
-      back true none an_order = refl
-      back false none an_order = absurd (pattern_refutes events learnt is.distinct
-          (pattern_is events learnt is meaning (subst (λ (c : Calls). Pattern c) same_calls (none refl)))
-          an_order.order an_order.explains)
+  pub pattern_if : IsOfQueue events learnt → Pattern (calls_by knows ends) → HasPattern events learnt
+  pattern_if is pattern =
+      pattern_is events learnt is meaning (subst (λ (c : Calls). Pattern c) same_calls pattern)
 
-pub none_if : (events : List Event) (learnt : List (Option Outcome))
-    → (IsOfQueue events learnt → HasPattern events learnt) → IsOfQueue events learnt
-    → (IsTrue false ↔ HasOrder events learnt)
-none_if events learnt pattern is = (
-  (λ truly. absurd (false≢true truly)),
-  (λ an_order. absurd (pattern_refutes events learnt is.distinct (pattern is) an_order.order an_order.explains)),
-)
+pub none_if : (events : List Event) (learnt : List (Option Outcome)) → IsOfQueue events learnt
+    → HasPattern events learnt → HasNoOrder events learnt
+none_if events learnt is pattern =
+    record { none = λ order explains. pattern_refutes events learnt is.distinct pattern order explains }

@@ -5,7 +5,6 @@ mod Listing
 mod Wide
 mod Clear
 mod Decided
-mod Finishes
 mod Hearing
 mod Meant
 mod Joined

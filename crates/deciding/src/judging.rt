@@ -1,22 +1,22 @@
 //! The decision.
 // A clause names the calls of the tables that it speaks of, so some are longer than 120 columns.
 
-ghost use Rattle.std.specs.Prelude.{◌≡◌, ◌↔◌, length, List, IfOk, IsTrue, IsFalse};
+ghost use Rattle.std.specs.Prelude.{◌≡◌, length, List, IfOk, IsTrue, IsFalse};
+ghost use Rattle.findings.specs.Findings.{HasNoOrder};
 ghost use Rattle.findings.specs.FourPatterns.{HasOrder, IsOfQueue};
 ghost use Rattle.windows.specs.Calls.{AreCalls, Explain, Pattern};
 ghost use Rattle.windows.specs.Runs.{Step};
 ghost use Rattle.deciding.specs.Table.{calls_by};
 ghost use Rattle.deciding.specs.Right.{AreRight, calls_in};
 
-use crate::ends::ends_of;
 use crate::known::Knows;
 use crate::meaning::knows_of;
 use crate::ranges::overfull;
+use crate::reading::ends_of;
 use crate::tables::{Tables, tables_of};
 use crate::wrong::{any_bad_take, any_never_empty, any_two_cross};
-use events::Events;
+use findings::Findings;
 use std::alloc::{AllocError, Global};
-use words::Outcome;
 
 /// Whether nothing is wrong with the calls of these tables: then some steps explain them, and else a pattern is in them.
 #[tactic(auto, using(crate::proofs::Decided::decided_order, crate::proofs::Decided::bad_take_pattern, crate::proofs::Decided::cross_pattern, crate::proofs::Decided::never_pattern, crate::proofs::Decided::full_pattern))]
@@ -45,17 +45,15 @@ fn have_order(alloc: Global, known: Vec<Knows>, ends: Vec<usize>) -> Result<bool
     Ok(is_explained(&tables))
 }
 
-/// Whether an order explains what is known of the calls of a recording of a queue.
-pub fn has_order(
-    alloc: Global,
-    events: &Events,
-    learnt: &[Option<Outcome>],
-) -> Result<bool, AllocError>
-    ensures { IfOk result (λ yes. IsOfQueue events.now.items learnt.now
-        → (IsTrue yes ↔ HasOrder events.now.items learnt.now)) }
+/// Whether an order explains what is known of the calls of a recording of a queue. Its time rises with the fourth power
+/// of their number.
+pub fn has_order(alloc: Global, findings: &Findings) -> Result<bool, AllocError>
+    requires { IsOfQueue findings.now.events findings.now.learnt }
+    ensures order { IfOk result (λ yes. IsTrue yes → HasOrder findings.now.events findings.now.learnt) }
+    ensures none { IfOk result (λ yes. IsFalse yes → HasNoOrder findings.now.events findings.now.learnt) }
 {
-    let ends = ends_of(alloc, events)?;
-    match knows_of(alloc, events, learnt, &ends)? {
+    let ends = ends_of(alloc, findings)?;
+    match knows_of(alloc, findings)? {
         Some(known) => {
             let yes = have_order(alloc, known, ends)?;
             Ok(yes)

@@ -3,7 +3,6 @@
 
 mod bounds;
 mod empties;
-mod ends;
 mod judging;
 mod known;
 mod meaning;

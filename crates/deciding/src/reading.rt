@@ -1,18 +1,14 @@
 //! What a recording says of each call.
 
-ghost use Rattle.std.specs.Prelude.{ℕ, ◌≡◌, ◌<◌, ◌↔◌, length, Option, IfSome, IfNone, IsSome, IsTrue};
-ghost use Rattle.words.specs.declared.call.Call.TheVariants.{Deq, Enq};
-ghost use Rattle.words.specs.declared.call.Client.{Client};
-ghost use Rattle.words.specs.declared.call.Reply.{Reply};
-ghost use Rattle.words.specs.declared.told.Outcome.{Outcome};
-ghost use Rattle.events.specs.History.{ReturnAt};
-ghost use Rattle.events.specs.Replay.{call_at};
-ghost use Rattle.findings.specs.Findings.{IsLearnt, PutsAt};
+ghost use Rattle.std.specs.Prelude.{ℕ, ◌≡◌, ◌<◌, length, IfSome, IfNone, IfOk};
+ghost use Rattle.findings.specs.Findings.{PutsAt};
 ghost use Rattle.findings.proofs.Offered.{end_at};
 ghost use Rattle.deciding.specs.Heard.{IsHeard};
+ghost use Rattle.deciding.specs.Tables.{HasEach};
 
-use events::{Event, Events, is_same_value};
-use words::{Call, Outcome, Reply, Value};
+use findings::{Findings, puts_at, returned_reply};
+use std::alloc::{AllocError, Global};
+use words::{Outcome, Reply, Value};
 
 /// What is known of a call.
 #[derive(Clone, Copy)]
@@ -22,91 +18,51 @@ pub(crate) enum Heard {
     Nothing,
 }
 
-/// The value that the call puts, if it puts one.
-pub(crate) fn value_put(call: Call) -> Option<Value>
-    ensures found { IfSome result (λ value. call ≡ Enq value) }
-    ensures none { IfNone result (call ≡ Deq) }
-{
-    match call {
-        Call::Enq(value) => Some(value),
-        Call::Deq => None,
-    }
-}
-
-/// Whether the call puts this value.
-fn puts(call: Call, value: &Value) -> bool
-    ensures { IsTrue result ↔ (call ≡ Enq value.now) }
-{
-    match value_put(call) {
-        Some(other) => is_same_value(&other, value),
-        None => false,
-    }
-}
-
-/// Whether the call at a place puts this value.
-fn puts_value(events: &Events, place: usize, value: &Value) -> bool
-    ensures { IsTrue result ↔ PutsAt events.now.items place value.now }
-{
-    match events.get(place) {
-        Some(Event::Call { call, .. }) => puts(call, value),
-        _ => false,
-    }
-}
-
 /// The put of a value, if there is one.
-pub(crate) fn find_put(events: &Events, value: &Value) -> Option<usize>
-    ensures found { IfSome result (λ place. PutsAt events.now.items place value.now) }
-    ensures none { IfNone result ((place : ℕ) → place < length events.now.items
-        → PutsAt events.now.items place value.now → ⊥) }
+pub(crate) fn find_put(findings: &Findings, value: &Value) -> Option<usize>
+    ensures found { IfSome result (λ place. PutsAt findings.now.events place value.now) }
+    ensures none { IfNone result ((place : ℕ) → place < length findings.now.events
+        → PutsAt findings.now.events place value.now → ⊥) }
 {
-    for place in 0..events.len() {
-        if puts_value(events, place, value) {
+    for place in 0..findings.len() {
+        if puts_at(findings, place, value) {
             return Some(place);
         }
     }
     None
 }
 
-/// What was learnt of the call at a place, if anything was.
-fn learnt_at(learnt: &[Option<Outcome>], place: usize) -> Option<Outcome>
-    ensures found { IfSome result (λ outcome. IsLearnt learnt.now place outcome) }
-    ensures none { IfNone result ((outcome : Outcome) → IsLearnt learnt.now place outcome → ⊥) }
+/// What is known of the call at a place.
+pub(crate) fn known_at(findings: &Findings, place: usize) -> Heard
+    ensures { IsHeard findings.now.events findings.now.learnt place result }
 {
-    match learnt.get(place) {
-        Some(Some(outcome)) => Some(*outcome),
-        _ => None,
-    }
-}
-
-/// The reply that returns at a place, if one does.
-fn returned(events: &Events, place: usize) -> Option<Reply>
-    ensures found { IfSome result (λ reply. (client : Client) × ReturnAt events.now.items place client reply) }
-    ensures none { IfNone result ((client : Client) (reply : Reply)
-        → ReturnAt events.now.items place client reply → ⊥) }
-{
-    match events.get(place) {
-        Some(Event::Return { reply, .. }) => Some(reply),
-        _ => None,
-    }
-}
-
-/// What is known of the call at a place, which ends at this one.
-pub(crate) fn known_at(
-    events: &Events,
-    learnt: &[Option<Outcome>],
-    place: usize,
-    end: usize,
-) -> Heard
-    requires call { IsSome (call_at events.now.items place) }
-    requires end { end ≡ end_at events.now.items place }
-    ensures { IsHeard events.now.items learnt.now place result }
-{
-    match learnt_at(learnt, place) {
+    match findings.learnt_at(place) {
         Some(Outcome::Taken(reply)) => Heard::Replied(reply),
         Some(Outcome::NotTaken) => Heard::Refused,
-        None => match returned(events, end) {
+        None => match returned_reply(findings, place) {
             Some(reply) => Heard::Replied(reply),
             None => Heard::Nothing,
         },
     }
+}
+
+/// The end of a call, and behind all if it has none.
+fn end_of(findings: &Findings, place: usize) -> usize
+    ensures { result ≡ end_at findings.now.events place }
+{
+    match findings.end(place) {
+        Some(end) => end,
+        None => findings.len(),
+    }
+}
+
+/// Of all places.
+pub(crate) fn ends_of(alloc: Global, findings: &Findings) -> Result<Vec<usize>, AllocError>
+    ensures { IfOk result (λ ends. HasEach (end_at findings.now.events) (length findings.now.events) ends.items) }
+{
+    let mut ends = Vec::with_capacity(alloc, findings.len())?;
+    for place in 0..findings.len() {
+        ends.push(end_of(findings, place))?;
+    }
+    Ok(ends)
 }

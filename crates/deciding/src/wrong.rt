@@ -1,4 +1,5 @@
 //! What is wrong with calls of which each has a take.
+// A clause names the calls of the tables that it speaks of, so some are longer than 120 columns.
 
 ghost use Rattle.std.specs.Prelude.{ℕ, ◌≡◌, ◌<◌, ◌↔◌, length, IsTrue};
 ghost use Rattle.deciding.specs.Bad.{DoCross, IsBadSource, IsBadTake, IsNeverEmpty};

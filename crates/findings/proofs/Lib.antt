@@ -19,4 +19,5 @@ mod Ending
 mod Ended
 mod Greatest
 mod Stands
+mod FittingReplies
 pub mod FewClients

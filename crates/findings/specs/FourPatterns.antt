@@ -1,12 +1,15 @@
 -- The four patterns in a recording, by the places of its calls, and what a recording of a queue is.
-use Rattle.std.specs.Prelude.{ℕ, ◌≡◌, ◌≢◌, ◌<◌, ◌≤◌, ◌+◌, ◌⊎◌, List, Option, Contains, length}
+use Rattle.std.specs.Prelude.{ℕ, ◌≡◌, ◌≢◌, ◌<◌, ◌≤◌, ◌+◌, ◌⊎◌, List, Option, Some, Contains, length}
 use Rattle.words.specs.PlainQueue.{Value}
+use Rattle.words.specs.declared.call.Call.{Call}
+use Rattle.words.specs.declared.call.Call.TheVariants.{Enq, Deq}
 use Rattle.words.specs.declared.call.Reply.{Reply}
 use Rattle.words.specs.declared.call.Reply.TheVariants.{Done, Empty}
 use Rattle.words.specs.declared.told.Outcome.{Outcome}
 use Rattle.events.specs.declared.event.Event.{Event}
 use Rattle.events.specs.declared.event.Entry.{Entry}
 use Rattle.events.specs.History.{Precedes}
+use Rattle.events.specs.Replay.{call_at}
 use Rattle.findings.specs.declared.witness.Since.{Since}
 use Rattle.findings.specs.Findings.{IsKnown, IsKnownGot, IsOverBy, PutsAt, TakesAt, HasDistinctValues, ExplainsFindings}
 use Rattle.findings.specs.Filling.{IsRecordedOfAny}
@@ -19,6 +22,16 @@ pub record IsOfQueue (events : List Event) (learnt : List (Option Outcome)) : Ty
   pub puts : (p : ℕ) (value : Value) (reply : Reply) → PutsAt events p value → IsKnown events learnt p reply
       → reply ≡ Done
   pub takes : (p : ℕ) (reply : Reply) → TakesAt events p → IsKnown events learnt p reply → reply ≢ Done
+
+-- the reply is one to the call
+abbrev pub Fits : Call → Reply → Type 0
+Fits (Enq value) reply = reply ≡ Done
+Fits Deq reply = reply ≢ Done
+
+-- each reply that is known of the call at p is one to it
+pub record HasFittingReply (events : List Event) (learnt : List (Option Outcome)) (p : ℕ) : Type 0 where
+  pub fits : (call : Call) (reply : Reply) → call_at events p ≡ Some call → IsKnown events learnt p reply
+      → Fits call reply
 
 -- values that takes begun before some place cannot all have taken: the value of one put, which came out by a later take, or
 -- those of several puts, of which fewer takes can have taken one

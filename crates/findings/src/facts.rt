@@ -208,7 +208,7 @@ impl Findings {
     }
 
     /// The call at a place, if there is one.
-    pub(crate) fn call_at(&self, place: usize) -> Option<Call>
+    pub fn call_at(&self, place: usize) -> Option<Call>
         ensures { result ≡ call_at self.now.events place }
     {
         if place >= self.facts.len() {
@@ -221,7 +221,7 @@ impl Findings {
     }
 
     /// What was learnt of the call at a place, if something was.
-    pub(crate) fn learnt_at(&self, place: usize) -> Option<Outcome>
+    pub fn learnt_at(&self, place: usize) -> Option<Outcome>
         ensures some { IfSome result (λ outcome. IsLearnt self.now.learnt place outcome) }
         ensures none { IfNone result ((outcome : Outcome) → IsLearnt self.now.learnt place outcome → ⊥) }
     {
@@ -232,7 +232,7 @@ impl Findings {
     }
 
     /// Where the call at a place ended, if one did.
-    pub(crate) fn end(&self, place: usize) -> Option<usize>
+    pub fn end(&self, place: usize) -> Option<usize>
         ensures some { IfSome result (λ end. HasEnd self.now.events place end) }
         ensures within { IfSome result (λ end. end < length self.now.events) }
         ensures none { IfNone result (HasNone self.now.events place) }

@@ -34,7 +34,7 @@ fn puts(call: Call, value: &Value) -> bool
 }
 
 /// Whether the call at `p` puts this value.
-pub(crate) fn puts_at(findings: &Findings, p: usize, value: &Value) -> bool
+pub fn puts_at(findings: &Findings, p: usize, value: &Value) -> bool
     ensures { IsTrue result ↔ PutsAt findings.now.events p value.now }
 {
     match findings.call_at(p) {
@@ -75,7 +75,7 @@ pub(crate) fn is_learnt(findings: &Findings, p: usize, outcome: Outcome) -> bool
 }
 
 /// The reply that the call at `p` returned, if it returned one.
-pub(crate) fn returned_reply(findings: &Findings, p: usize) -> Option<Reply>
+pub fn returned_reply(findings: &Findings, p: usize) -> Option<Reply>
     ensures some { IfSome result (λ reply. IsReturned findings.now.events p reply) }
     ensures none { IfNone result ((reply : Reply) → IsReturned findings.now.events p reply → ⊥) }
 {

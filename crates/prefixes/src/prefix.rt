@@ -17,10 +17,7 @@ pub struct Prefix {
 
 /// Which calls were refused by then.
 fn refused(alloc: Global, recording: &Recording, count: usize) -> Result<Vec<bool>, AllocError> {
-    let mut refused = Vec::with_capacity(alloc, recording.calls.len())?;
-    for _ in 0..recording.calls.len() {
-        refused.push(false)?;
-    }
+    let mut refused = vec![in alloc; false; recording.calls.len()]?;
     for number in 0..count {
         if let Some(step) = recording.steps.get(number) {
             if let Act::Refuse(call) = step.act {
@@ -136,14 +133,10 @@ pub fn prefix_of(alloc: Global, recording: &Recording, count: usize) -> Result<P
     ensures { IfOk result (λ prefix. prefix.count ≡ count) }
 {
     let refused = refused(alloc, recording, count)?;
-    let mut number_of = Vec::with_capacity(alloc, recording.calls.len())?;
-    for _ in 0..recording.calls.len() {
-        number_of.push(0usize)?;
-    }
     let mut walk = Walk {
-        calls: Calls::new(alloc),
-        step_of: Vec::new(alloc),
-        number_of,
+        calls: Calls::with_room(alloc, recording.calls.len().min(count))?,
+        step_of: Vec::with_capacity(alloc, recording.steps.len().min(count))?,
+        number_of: vec![in alloc; 0usize; recording.calls.len()]?,
         holders: Vec::new(alloc),
     };
     for step in 0..count.min(recording.steps.len()) {

@@ -54,14 +54,12 @@ texts_with texts text =
     go false = map-append string_bytes texts (text ∷ [])
 
 -- the same has been read
-pub same_read : (a b : Read) → a.clients ≡ b.clients → a.states ≡ b.states → a.values ≡ b.values → a.put ≡ b.put
+pub same_read : (a b : Read) → a.clients ≡ b.clients → a.states ≡ b.states → a.values ≡ b.values
     → a.numbers ≡ b.numbers → a.free ≡ b.free → a.calls ≡ b.calls → a.steps ≡ b.steps → a ≡ b
-same_read a b clients states values put numbers free calls steps =
+same_read a b clients states values numbers free calls steps =
     ap (λ (xs : List (List ℕ)). record a { clients = xs }) clients
     ∙ ap (λ (xs : List State). record a { clients = b.clients; states = xs }) states
     ∙ ap (λ (xs : List (List ℕ)). record a { clients = b.clients; states = b.states; values = xs }) values
-    ∙ ap (λ (xs : List Bool).
-    record b { put = xs; numbers = a.numbers; free = a.free; calls = a.calls; steps = a.steps }) put
     ∙ ap (λ (n : ℕ). record b { numbers = n; free = a.free; calls = a.calls; steps = a.steps }) numbers
     ∙ ap (λ (xs : List ℕ). record b { free = xs; calls = a.calls; steps = a.steps }) free
     ∙ ap (λ (xs : List CallOf). record b { calls = xs; steps = a.steps }) calls

@@ -11,7 +11,6 @@ read_of reader = record {
   clients = map string_bytes reader.clients.keys;
   states = reader.states.items;
   values = map string_bytes reader.values.keys;
-  put = reader.put.items;
   numbers = reader.numbers;
   free = reader.free.items;
   calls = reader.calls.items;

@@ -41,8 +41,6 @@ pub record Read : Type 0 where
   -- what each client is about
   pub states : List State
   pub values : List (List ℕ)
-  -- whether each value was put
-  pub put : List Bool
   -- how many of the numbers by which a history knows clients were given since the last crash
   pub numbers : ℕ
   -- and those that are free again
@@ -57,24 +55,19 @@ with_client read text = record read {
   states = if list_any (bytes_eq text) read.clients then read.states else read.states ++ Idle ∷ [];
 }
 
--- with this value; a new one was not put
+-- with this value
 abbrev pub with_value : Read → List ℕ → Read
-with_value read text = record read {
-  values = with_text read.values text;
-  put = if list_any (bytes_eq text) read.values then read.put else read.put ++ false ∷ [];
-}
+with_value read text = record read { values = with_text read.values text }
 
 -- with one step more
 abbrev pub with_step : Read → Act → At → Read
 with_step read act at =
     record read { steps = read.steps ++ (record { act = act; line = at.line; time = at.time }) ∷ [] }
 
--- a value is put, if one is
+-- with the value that is put, if one is
 abbrev pub with_put : Read → Option (List ℕ) → Read
 with_put read None = read
-with_put read (Some text) = record (with_value read text) {
-  put = slice_set (with_value read text).put (number_in read.values text) true;
-}
+with_put read (Some text) = with_value read text
 
 -- the next number that is given: the last one that is free again, or a new one
 abbrev pub next_number : Read → ℕ
@@ -99,11 +92,6 @@ with_call read client puts is_base at = with_step
       }) ∷ [];
     })
     (Begin (length read.calls)) at
-
--- the value was put before
-abbrev pub IsPutBefore : Read → Option (List ℕ) → Type 0
-IsPutBefore read None = ⊥
-IsPutBefore read (Some text) = slice_get (with_value read text).put (number_in read.values text) ≡ Some true
 
 -- whether the call puts
 abbrev pub does_put : Read → ℕ → Bool
@@ -167,10 +155,9 @@ abbrev pub IsUnderWay : State → Type 0
 IsUnderWay (Calls call) = ⊤
 IsUnderWay state = ⊥
 
--- a line with which a client calls: its last call is over, and the value was not put before
+-- a line with which a client calls: its last call is over
 pub record IsBeginLine (old : Read) (client : List ℕ) (puts : Option (List ℕ)) (at : At) (new : Read) : Type 0 where
   pub idle : IsUnderWay (state_of old client) → ⊥
-  pub first : IsPutBefore (with_client old client) puts → ⊥
   pub read : new ≡ with_state (with_call (with_client old client) (number_in old.clients client) puts false at)
       (number_in old.clients client) (Calls (length old.calls))
 

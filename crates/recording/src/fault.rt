@@ -8,7 +8,6 @@ use std::fmt;
 pub enum Why {
     NoObject,
     NoLine,
-    PutTwice(String),
     NoCall(String),
     UnderWay(String),
     WrongAnswer(String),
@@ -25,7 +24,6 @@ impl fmt::Display for Why {
         match self {
             Why::NoObject => write!(f, "this is no JSON object"),
             Why::NoLine => write!(f, "this is no line of a recording"),
-            Why::PutTwice(value) => write!(f, "value {value} is put twice"),
             Why::NoCall(client) => write!(f, "client {client} has no call under way"),
             Why::UnderWay(client) => write!(f, "client {client} has a call under way"),
             Why::WrongAnswer(client) => {
@@ -48,6 +46,8 @@ impl fmt::Display for Why {
 pub enum Fault {
     Memory,
     Line(u32, Why),
+    /// The steps are not seen to be a recording of a queue. None is known that a text comes to.
+    NoRecording,
 }
 
 impl fmt::Display for Fault {
@@ -55,6 +55,7 @@ impl fmt::Display for Fault {
         match self {
             Fault::Memory => write!(f, "there is no memory left"),
             Fault::Line(line, why) => write!(f, "refused: line {line}: {why}"),
+            Fault::NoRecording => write!(f, "refused: what was read is no recording of a queue"),
         }
     }
 }

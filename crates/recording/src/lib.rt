@@ -2,10 +2,12 @@
 #![tactic(auto)]
 
 mod act;
+mod copies;
 mod fault;
 mod line;
 mod members;
 mod queues;
+mod ranks;
 mod reader;
 mod reading;
 mod state;
@@ -13,6 +15,7 @@ mod timed;
 mod wording;
 
 pub use act::{Act, CallOf, Recording, Said, Step};
+pub use copies::{Distinct, Turn, ValueCounts, value_counts, with_copies, without_repeated};
 pub use fault::{Fault, Why};
 pub use queues::{Recorded, read};
 pub use wording::shown;

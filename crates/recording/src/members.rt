@@ -1,4 +1,5 @@
 //! Lines read from JSON.
+// A clause names the data of a value, and what they say, so some are longer than 120 columns.
 
 ghost use Rattle.std.specs.Prelude.{◌≡◌, true, is_some, false, codes, option_map, string_bytes, IfOk};
 ghost use Rattle.serde_json.specs.Find.{get};

@@ -4,7 +4,7 @@ ghost use Rattle.std.specs.Prelude.{◌≡◌, Some, codes, length, map, option_
 ghost use Rattle.std.specs.Prelude.{IfOk, IsTrue, OnOk};
 ghost use Rattle.std.specs.String.{string_bytes};
 ghost use Rattle.recording.specs.Reading.{number_in, with_client, with_value, with_put, with_step, with_call};
-ghost use Rattle.recording.specs.Reading.{next_number, IsPutBefore, does_put, said_by, with_got, with_free};
+ghost use Rattle.recording.specs.Reading.{next_number, does_put, said_by, with_got, with_free};
 ghost use Rattle.recording.specs.Reading.{with_answer, MayAnswer, with_crash, crashed, with_state, with_number};
 ghost use Rattle.recording.specs.Reading.{after_answer, IsBeginLine, IsAnswerLine, IsToldLine, IsLine};
 ghost use Rattle.recording.specs.Reading.{with_base_value, with_base, with_left_value, with_left, with_final};
@@ -14,6 +14,7 @@ ghost use Rattle.recording.specs.Recording.{AreDistinct};
 use crate::act::{Act, CallOf, Recording, Said, Step};
 use crate::fault::{Fault, Why};
 use crate::line::{Answered, Line, Told};
+use crate::ranks::ranks_of;
 use crate::state::State;
 use crate::wording::shown;
 use indexmap::IndexSet;
@@ -27,8 +28,6 @@ pub(crate) struct Reader {
     /// What each client is about.
     states: Vec<State>,
     values: IndexSet<String>,
-    /// Whether each value was put.
-    put: Vec<bool>,
     /// How many numbers by which a history knows clients were given since the last crash, and those that are free again.
     numbers: u32,
     free: Vec<u32>,
@@ -52,7 +51,6 @@ impl Reader {
             clients: IndexSet::new(alloc),
             states: Vec::new(alloc),
             values: IndexSet::new(alloc),
-            put: Vec::new(alloc),
             numbers: 0,
             free: Vec::new(alloc),
             calls: Vec::new(alloc),
@@ -85,10 +83,7 @@ impl Reader {
         ensures number { IfOk result (λ n. n ≡ number_in (read_of self.old).values (string_bytes text)) }
         ensures read { OnOk result (read_of self.new ≡ with_value (read_of self.old) (string_bytes text)) }
     {
-        let (value, is_new) = self.values.insert_full(text)?;
-        if is_new {
-            self.put.push(false)?;
-        }
+        let (value, _is_new) = self.values.insert_full(text)?;
         Ok(value)
     }
 
@@ -112,38 +107,13 @@ impl Reader {
         }
     }
 
-    /// What a value shows.
-    fn value_text(&self, value: usize) -> Result<String, Fault> {
-        match self.values.get_index(value) {
-            Some(text) => Ok(shown(self.alloc, text.as_str())?),
-            None => Ok(String::new(self.alloc)),
-        }
-    }
-
-    /// The number of a value that is put now, for the first time.
-    fn put(&mut self, text: String, at: At) -> Result<usize, Fault>
-        ensures number { IfOk result (λ n. n ≡ number_in (read_of self.old).values (string_bytes text)) }
-        ensures read { OnOk result (read_of self.new ≡ with_put (read_of self.old) (Some (string_bytes text))) }
-        ensures first { OnOk result (IsPutBefore (read_of self.old) (Some (string_bytes text)) → ⊥) }
-    {
-        let value = self.value(text)?;
-        if value < self.put.len() {
-            if self.put[value] {
-                return Err(Fault::Line(at.line, Why::PutTwice(self.value_text(value)?)));
-            }
-            self.put[value] = true;
-        }
-        Ok(value)
-    }
-
     /// The number of the value that a call puts, if it puts one.
-    fn put_any(&mut self, puts: Option<String>, at: At) -> Result<Option<usize>, Fault>
+    fn put(&mut self, puts: Option<String>) -> Result<Option<usize>, Fault>
         ensures number { IfOk result (λ n. n ≡ option_map (number_in (read_of self.old).values) (bytes_of puts)) }
         ensures read { OnOk result (read_of self.new ≡ with_put (read_of self.old) (bytes_of puts)) }
-        ensures first { OnOk result (IsPutBefore (read_of self.old) (bytes_of puts) → ⊥) }
     {
         match puts {
-            Some(text) => Ok(Some(self.put(text, at)?)),
+            Some(text) => Ok(Some(self.value(text)?)),
             None => Ok(None),
         }
     }
@@ -175,9 +145,8 @@ impl Reader {
     ) -> Result<usize, Fault>
         ensures number { IfOk result (λ call. call ≡ length (read_of self.old).calls) }
         ensures read { OnOk result (read_of self.new ≡ with_call (read_of self.old) client (bytes_of puts) is_base at) }
-        ensures first { OnOk result (IsPutBefore (read_of self.old) (bytes_of puts) → ⊥) }
     {
-        let puts = self.put_any(puts, at)?;
+        let puts = self.put(puts)?;
         let number = self.give_number()?;
         let call = self.calls.len();
         self.calls.push(CallOf {
@@ -420,41 +389,12 @@ impl Reader {
         }
     }
 
-    /// The number of each value among those that are put, as they are put.
-    fn ranks(&self) -> Result<Vec<u32>, Fault> {
-        let count = self.values.len();
-        let mut ranks = Vec::with_capacity(self.alloc, count)?;
-        for _ in 0..count {
-            ranks.push(u32::MAX)?;
-        }
-        let mut next = 0u32;
-        for step in &self.steps {
-            let value = match step.act {
-                Act::Begin(call) => self.calls.get(call).copied().and_then(|call| call.puts),
-                _ => None,
-            };
-            if let Some(value) = value {
-                if let Some(rank) = ranks.get_mut(value) {
-                    *rank = next;
-                    next = next.saturating_add(1);
-                }
-            }
-        }
-        for rank in ranks.iter_mut() {
-            if *rank == u32::MAX {
-                *rank = next;
-                next = next.saturating_add(1);
-            }
-        }
-        Ok(ranks)
-    }
-
     /// What was read, as a recording.
     pub(crate) fn recording(self) -> Result<Recording, Fault>
         ensures read { IfOk result (λ recording. IsOfRead (read_of self) recording) }
         ensures distinct { IfOk result (λ recording. AreDistinct recording.ranks.items) }
     {
-        let ranks = self.ranks()?;
+        let ranks = ranks_of(self.alloc, &self.calls, &self.steps, self.values.len())?;
         if !are_distinct(self.alloc, &ranks)? {
             // There are more values than a rank can count.
             return Err(Fault::Memory);

@@ -89,6 +89,8 @@ impl Lines {
         }
         let mixes = if has_times(said) {
             self.is_plain
+        } else if is_base(said) {
+            self.clock.has_calls()
         } else {
             !is_final(said) && !self.clock.is_empty()
         };

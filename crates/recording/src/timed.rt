@@ -64,6 +64,11 @@ impl Clock {
         self.timed.is_empty()
     }
 
+    /// Whether it has a call: crashes are of all queues, and may come before the first line of this one.
+    pub(crate) fn has_calls(&self) -> bool {
+        self.ticks.iter().any(|tick| tick.kind != Kind::Crash)
+    }
+
     fn tick(&mut self, reader: &mut Reader, moment: Moment, kind: Kind) -> Result<(), Fault> {
         let time = reader.keep_time(moment.text)?;
         self.ticks.push(Tick {

@@ -45,12 +45,13 @@ pub struct Calls {
 }
 
 impl Calls {
-    pub fn new(alloc: Global) -> Self {
-        Calls {
-            calls: Vec::new(alloc),
+    /// None, and room for so many.
+    pub fn with_room(alloc: Global, count: usize) -> Result<Self, AllocError> {
+        Ok(Calls {
+            calls: Vec::with_capacity(alloc, count)?,
             crashes: Vec::new(alloc),
             places: 0,
-        }
+        })
     }
 
     /// A call begins at the next place. The answer is its number.

@@ -35,6 +35,7 @@ fn order(
     items: &mut Vec<Item>,
     takes: &OpenTakes,
     reaches: &Reaches,
+    wants_order: bool,
 ) -> Result<Found, AllocError> {
     unmatch(items);
     let empties = match find_moments(alloc, calls, items.as_slice(), takes)? {
@@ -48,6 +49,9 @@ fn order(
     if let Matched::Short { .. } = match_up(alloc, items, takes)? {
         return Ok(Found::Nothing);
     }
+    if !wants_order {
+        return Ok(Found::Order(Vec::new(alloc)));
+    }
     match ordered(alloc, items.as_slice(), &empties)? {
         Some(entries) => Ok(Found::Order(entries)),
         None => Ok(Found::Nothing),
@@ -55,8 +59,9 @@ fn order(
 }
 
 /// Looks for an order that explains what is known of the calls, or for a witness that there is none. It is made for
-/// recordings in which the values that are put ascend, from a small number on.
-pub fn search(alloc: Global, calls: &Calls) -> Result<Found, AllocError> {
+/// recordings in which the values that are put ascend, from a small number on. Where the order is not wanted, none is made
+/// of what was found.
+pub fn search(alloc: Global, calls: &Calls, wants_order: bool) -> Result<Found, AllocError> {
     let mut items = match pair_up(alloc, &calls.calls)? {
         Paired::Items(items) => items,
         Paired::Bad(witness) => return Ok(Found::Witness(witness)),
@@ -76,5 +81,5 @@ pub fn search(alloc: Global, calls: &Calls) -> Result<Found, AllocError> {
         unmatch(&mut items);
         return Ok(judged_later(short_witness(alloc, &items, &takes, &short, first)?));
     }
-    order(alloc, calls, &mut items, &takes, &reaches)
+    order(alloc, calls, &mut items, &takes, &reaches, wants_order)
 }

@@ -5,4 +5,4 @@ mod page;
 mod texts;
 
 pub use page::page_of;
-pub use texts::{print_order, verdict};
+pub use texts::{print_order, verdict, verdict_of_repeated};

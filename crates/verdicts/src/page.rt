@@ -499,7 +499,7 @@ impl<'a> Page<'a> {
                 self.effects(&prefix_of(self.alloc, self.recording, last)?, before)?;
                 self.line_across("limit", last)
             }
-            Answer::Unknown => self.picture(),
+            Answer::SomeOrder | Answer::NoOrder => self.picture(),
         }
     }
 

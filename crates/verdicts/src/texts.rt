@@ -1,10 +1,10 @@
 //! The verdict as text.
 
-use answers::Answer;
+use answers::{Answer, Repeated};
 use events::Entry;
 use findings::{Lack, Piece, Since, Witness, rank_of};
 use prefixes::Prefix;
-use recording::{Act, Recording, Said, shown};
+use recording::{Act, Recording, Said, ValueCounts, shown};
 use seeking::{Known, KnownCall};
 use std::alloc::{AllocError, Global};
 use std::fmt::Write;
@@ -653,11 +653,65 @@ pub fn verdict(
             explained(alloc, counts_of(recording, prefix, entries))
         }
         Answer::Impossible(prefix, witness, _) => impossible(alloc, recording, prefix, witness),
-        Answer::Unknown => String::from_str(
+        Answer::SomeOrder => {
+            String::from_str(
+                alloc,
+                "explained: by some order, which the search did not find\n",
+            )
+        }
+        Answer::NoOrder => String::from_str(
             alloc,
-            "unknown: no order was found that the checker accepts, and no reason why there is none\n",
+            "impossible: no order explains it; the search did not find why\n",
         ),
     }
+}
+
+/// A value came out more often than it was put.
+fn outnumbered(
+    alloc: Global,
+    recording: &Recording,
+    value: usize,
+    counts: ValueCounts,
+) -> Result<String, AllocError> {
+    let mut text = String::from_str(alloc, "impossible: ")?;
+    if let Some(json) = recording.values.get_index(value) {
+        text.push_str(shown(alloc, json.as_str())?.as_str())?;
+    }
+    let takes = counts.takes;
+    let live = counts.live;
+    writeln!(
+        text,
+        " came out {takes} times, and at most {live} puts of it took effect"
+    )?;
+    Ok(text)
+}
+
+/// The verdict on a recording in which values are put more than once, of which these are the counts.
+pub fn verdict_of_repeated(
+    alloc: Global,
+    recording: &Recording,
+    counts: &[ValueCounts],
+    answer: &Repeated,
+) -> Result<String, AllocError> {
+    let repeated = counts.iter().filter(|counts| counts.puts > 1).count();
+    let mut text = match answer {
+        Repeated::Explained(answer) => verdict(alloc, recording, answer)?,
+        Repeated::Outnumbered { value, counts } => outnumbered(alloc, recording, *value, *counts)?,
+        Repeated::Part(part, answer) => verdict(alloc, part, answer)?,
+        Repeated::Undecided => String::from_str(
+            alloc,
+            "undecided: no order was found in which copies of a value come out as they were put\n",
+        )?,
+    };
+    writeln!(text, "  {repeated} values were put more than once")?;
+    if let Repeated::Part(part, _) = answer {
+        if part.steps.len() < recording.steps.len() {
+            text.push_str(
+                "  calls on those of which several puts may have taken effect are left out\n",
+            )?;
+        }
+    }
+    Ok(text)
 }
 
 /// The entries of the order, a line for each.

@@ -11,17 +11,16 @@ pub returns-then-branch : goal.returns-then-branch
 returns-then-branch c =
     let rec = c.args.recording.now in
     let steps = first_steps rec c.args.count in
-    let found = c.in_ok-findings.findings in
+    let found = c.args.findings.now in
     let order = c.from_vec.result.items in
     let explains : ExplainsFindings (events_of rec steps) (learnt_of rec steps) order =
     subst (λ (os : List (Option Outcome)). ExplainsFindings (events_of rec steps) os order)
-    c.in_ok-findings.ensures.learnt
-    (subst (λ (es : List Event). ExplainsFindings es found.learnt order) c.in_ok-findings.ensures.events
+    c.requires.found.learnt
+    (subst (λ (es : List Event). ExplainsFindings es found.learnt order) c.requires.found.events
     (c.in_ok-explains_findings.ensures.0 c.if-branch.true)) in
     let recorded : IsRecordedOfAny (events_of rec steps) (learnt_of rec steps) =
-    subst (λ (os : List (Option Outcome)). IsRecordedOfAny (events_of rec steps) os) c.in_ok-findings.ensures.learnt
-    (subst (λ (es : List Event). IsRecordedOfAny es found.learnt) c.in_ok-findings.ensures.events
-    (c.in_ok-is_recorded.ensures c.if-not-branch.false)) in
+    subst (λ (os : List (Option Outcome)). IsRecordedOfAny (events_of rec steps) os) c.requires.found.learnt
+    (subst (λ (es : List Event). IsRecordedOfAny es found.learnt) c.requires.found.events c.requires.recorded) in
     record {
       explains = explains;
       recorded = recorded;

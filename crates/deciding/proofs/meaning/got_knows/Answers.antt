@@ -7,5 +7,5 @@ returns-in-Some-clause-found c = means_took c.args.value.now c.in-Some.put c.req
     c.in-Some.ensures.found
 
 pub returns-in-None-clause-none : goal.returns-in-None-clause-none
-returns-in-None-clause-none c = nobody_put c.args.events.now.items c.args.learnt.now c.args.place c.args.value.now
+returns-in-None-clause-none c = nobody_put c.args.findings.now.events c.args.findings.now.learnt c.args.place c.args.value.now
     c.requires.got c.in-None.ensures.none

@@ -6,4 +6,4 @@ use Rattle.deciding.proofs.meaning.knows_of.Given as goal
 
 abbrev pub invariant-loop-place : goal.invariant-loop-place
 invariant-loop-place l = (length l.known.items ≡ l.place)
-    × ((p : ℕ) → p < l.place → Means l.events.items l.learnt p (known_of (get_or l.known.items p NoCall)))
+    × ((p : ℕ) → p < l.place → Means l.findings.events l.findings.learnt p (known_of (get_or l.known.items p NoCall)))

@@ -7,9 +7,9 @@ use Rattle.deciding.proofs.meaning.stored_knows.Goals as goal
 
 pub returns-then-is_done-clause-found : goal.returns-then-is_done-clause-found
 returns-then-is_done-clause-found c = means_done c.args.value.now c.requires.puts
-    (subst (IsKnown c.args.events.now.items c.args.learnt.now c.args.place)
+    (subst (IsKnown c.args.findings.now.events c.args.findings.now.learnt c.args.place)
     (c.is_done.ensures.0 c.if-is_done.true) c.requires.known)
 
 pub returns-else-is_done-clause-none : goal.returns-else-is_done-clause-none
-returns-else-is_done-clause-none c = no_such_put c.args.events.now.items c.args.learnt.now c.args.place c.args.value.now
+returns-else-is_done-clause-none c = no_such_put c.args.findings.now.events c.args.findings.now.learnt c.args.place c.args.value.now
     c.args.reply.now c.requires.puts c.requires.known (iff_false c.is_done.ensures c.if-is_done.false)

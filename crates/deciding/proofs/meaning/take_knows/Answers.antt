@@ -5,8 +5,8 @@ use Rattle.deciding.proofs.meaning.take_knows.Goals as goal
 
 pub returns-in-Refused-clause-found : goal.returns-in-Refused-clause-found
 returns-in-Refused-clause-found c = means_take_not c.requires.takes
-    (subst (IsHeard c.args.events.now.items c.args.learnt.now c.args.place) c.in-Refused.is c.requires.heard)
+    (subst (IsHeard c.args.findings.now.events c.args.findings.now.learnt c.args.place) c.in-Refused.is c.requires.heard)
 
 pub returns-in-Nothing-clause-found : goal.returns-in-Nothing-clause-found
 returns-in-Nothing-clause-found c = means_take_open c.requires.takes
-    (subst (IsHeard c.args.events.now.items c.args.learnt.now c.args.place) c.in-Nothing.is c.requires.heard)
+    (subst (IsHeard c.args.findings.now.events c.args.findings.now.learnt c.args.place) c.in-Nothing.is c.requires.heard)

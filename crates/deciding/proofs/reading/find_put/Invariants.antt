@@ -3,4 +3,4 @@ use Rattle.findings.specs.Findings.{PutsAt}
 use Rattle.deciding.proofs.reading.find_put.Given as goal
 
 abbrev pub invariant-loop-place : goal.invariant-loop-place
-invariant-loop-place l = (place : ℕ) → place < l.place → PutsAt l.events.items place l.value → ⊥
+invariant-loop-place l = (place : ℕ) → place < l.place → PutsAt l.findings.events place l.value → ⊥

@@ -1,10 +1,10 @@
-use Rattle.deciding.proofs.Hearing.{replied_at_end, nothing_at_end}
+use Rattle.std.proofs.Common.{inl}
+use Rattle.deciding.proofs.Hearing.{nothing_known}
 use Rattle.deciding.proofs.reading.known_at.Goals as goal
 
 pub returns-in-Some : goal.returns-in-Some
-returns-in-Some c = replied_at_end c.args.events.now.items c.args.learnt.now c.args.place c.args.end
-    c.in-Some.ensures.found.0 c.in-Some.reply c.requires.call c.requires.end c.in-Some.ensures.found.1
+returns-in-Some c = inl c.in-Some.ensures.some
 
-pub returns-in-None-returned : goal.returns-in-None-returned
-returns-in-None-returned c = nothing_at_end c.args.events.now.items c.args.learnt.now c.args.place c.args.end
-    c.requires.end c.in-None.ensures.none c.in-None-returned.ensures.none
+pub returns-in-None-returned_reply : goal.returns-in-None-returned_reply
+returns-in-None-returned_reply c = nothing_known c.args.findings.now.events c.args.findings.now.learnt c.args.place
+    c.in-None.ensures.none c.in-None-returned_reply.ensures.none

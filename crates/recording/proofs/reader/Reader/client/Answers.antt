@@ -19,8 +19,8 @@ returns-clause-read c =
     elim c.if-is_new.branch [
       | then-is_new+in_ok-push w ↦
           let with = w.in_ok-push.ensures.items ∙ new_with keys text was _ is_new told.added w.if-is_new.true in
-          ap read_of w.self-is ∙ same_read _ _ texts with refl refl refl refl refl refl
+          ap read_of w.self-is ∙ same_read _ _ texts with refl refl refl refl refl
       | else-is_new w ↦
           let with = old_with keys text was _ is_new told.added w.if-is_new.false in
-          ap read_of w.self-is ∙ same_read _ _ texts with refl refl refl refl refl refl
+          ap read_of w.self-is ∙ same_read _ _ texts with refl refl refl refl refl
     ]
