@@ -6,8 +6,7 @@ told the same, and its calls take the items in their order. Where they do not fi
 import random
 import sys
 
-from items import Wrong, ended, recovered, require
-
+sys.path.insert(0, sys.argv[1])
 import image
 import images
 import renewal
@@ -16,6 +15,34 @@ from machine import Machine
 
 SHAPES = [(1, 1), (1, 2), (2, 1), (2, 2), (2, 3), (3, 2), (1, 5), (3, 4), (4, 8)]
 NOTHING = {"durable": {"row": "nocall"}, "log": {"told": "none"}}
+
+
+class Wrong(Exception):
+    """What should hold, and does not."""
+
+
+def require(holds, *what):
+    if not holds:
+        raise Wrong(" ".join(map(str, what)))
+
+
+def reply_to(machine, client, number, message):
+    """The reply to a call that goes on alone."""
+    refusal = machine.start(client, number, message)
+    if refusal:
+        return refusal
+    call = None
+    while call is None:
+        call = machine.step(client)
+    return call.reply
+
+
+def told_at_recovery(machine):
+    """What clients are told once the machine has recovered."""
+    done = None
+    while done is None:
+        done = machine.recover_step()
+    return done[1]
 
 
 def drawn_block(draw):
@@ -35,7 +62,7 @@ def check_calls(new, tells):
     machine = Machine(new.kind, new.clients, new.records, FORM)
     machine.kept = new.words[:new.size]
     machine.crash()
-    told = recovered(machine)[1]
+    told = told_at_recovery(machine)
     require(len(told) == new.clients, told)
     items = [FORM.text(item) for item in new.queue("").values]
     require(machine.content() == items, machine.content(), items)
@@ -43,7 +70,7 @@ def check_calls(new, tells):
         if not items or new.begun(client) == new.records:
             continue
         number = tells[client].get("number", 0) + 1
-        reply, _ = ended(machine, client, number, None)
+        reply = reply_to(machine, client, number, None)
         require(reply == f"got {items.pop(0)}", client, reply)
 
 
