@@ -44,7 +44,7 @@ IsMarked clients first marked = IsWorked (λ served. entries served) clients fir
 abbrev pub IsSettled : ℕ → Sessioned → Sessioned → Type 0
 IsSettled clients first sure = IsWorked (λ served. served.settled) clients first sure
 
--- The image of the last session, when all workers had served. It goes on from each to which they were answered.
+-- The image of the last session. It goes on from these, each of which a worker had marked behind what it answered.
 pub record IsImageServed (broker : Brokered) (bytes : List ℕ) : Type 0 where
   pub first : Sessioned
   pub opened : IsOpenedOver broker first
@@ -53,7 +53,7 @@ pub record IsImageServed (broker : Brokered) (bytes : List ℕ) : Type 0 where
   pub worked : All (IsMarked broker.counts.clients first) marked
   pub later : All (λ session. GoesOnLater session left.last) marked
 
--- The same, and its journal. It goes on from each session up to which their replies were settled.
+-- The same, and its journal. It goes on from these, up to each of which a worker's replies were settled.
 pub record IsLeftServed (broker : Brokered) (bytes : List ℕ) (j : OnDevice) : Type 0 where
   pub first : Sessioned
   pub opened : IsOpenedOver broker first

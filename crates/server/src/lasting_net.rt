@@ -201,7 +201,7 @@ pub fn net_lasting<S: Storage + Drop + Send, R: Threads + Wait + Net + Clock + L
     listener: &TcpListener,
 ) -> Result<Left<S>, Unserved>
     requires { IsUncalled broker }
-    // Each request whose reply was settled was answered in turn, by the session whose image and journal are left.
+    // The session whose image and journal are left goes on from tokens that workers had, behind what each settled.
     ensures { IfOk result (λ left. IsLeftServed broker left.image.items left.journal) }
 {
     let noted = begin_noting(alloc, broker)?;

@@ -295,7 +295,7 @@ pub fn net<R: Threads + Wait + Net + Clock + Log + Sync>(
     listener: &TcpListener,
 ) -> Result<Vec<u8>, Refusal>
     requires { IsUncalled broker }
-    // Each request of a connection was answered in turn, by the session whose image is left.
+    // The session whose image is left goes on from marks that workers had, behind what each answered in turn.
     ensures image { IfOk result (λ bytes. IsImageServed broker bytes.items) }
     ensures errors { IfErr result IsBusyOrNoMemory }
 {
