@@ -1,7 +1,9 @@
 //! Workers, each at one desk, where its connections have their turns.
 
-ghost use Rattle.std.specs.Prelude.{◌≡◌, IfSome};
-ghost use Rattle.server.specs.Worked.{IsMarked, IsSettled};
+ghost use Rattle.std.specs.Prelude.{◌≡◌};
+ghost use Rattle.chronicle.specs.Chronicled.{entries};
+ghost use Rattle.desk.specs.Answering.{IsServedInTurn};
+ghost use Rattle.server.specs.Worked.{AreTurns, IsSettledBy};
 
 use crate::stopping::Stopping;
 use desk::BrokerDesk;
@@ -23,12 +25,12 @@ use workers::{Assured, Marked, Naming, Shared};
 pub(crate) trait Worker {
     /// Serves what came in over a connection for now.
     fn serve<R: Wait>(
-        self,
+        &mut self,
         rt: &R,
         alloc: Global,
         reader: &mut Incoming<'_>,
         writer: &mut Outgoing<'_>,
-    ) -> (Self, Result<(), Failure>)
+    ) -> Result<(), Failure>
         requires reader { reader.old.failures ≡ 0 }
         requires writer { writer.old.failures ≡ 0 };
 }
@@ -73,26 +75,28 @@ impl<'a, J: Naming> Model for BrokerWorker<'a, J> {
 
 impl<'a, J: Naming> BrokerWorker<'a, J> {
     /// The mark of the session up to which all that was served is answered.
-    pub(crate) fn into_mark(self) -> Option<Marked<J>>
-        ensures { IfSome result (IsMarked J.clients J.first) }
+    pub(crate) fn into_mark(self) -> Marked<J>
+        ensures turns { AreTurns self.entry }
+        ensures turn { IsServedInTurn J.clients J.first (entries self.entry) result }
     {
         let desk = self.desk.into_desk();
         desk.has_told();
-        desk.into_mark()
+        match desk.into_mark() {
+            Some(marked) => marked,
+            None => unreachable!(),
+        }
     }
 }
 
 impl<'a, J: Naming> Worker for BrokerWorker<'a, J> {
     fn serve<R: Wait>(
-        self,
+        &mut self,
         rt: &R,
         alloc: Global,
         reader: &mut Incoming<'_>,
         writer: &mut Outgoing<'_>,
-    ) -> (Self, Result<(), Failure>) {
-        let BrokerWorker { mut desk } = self;
-        let served = serving::connection(rt, alloc, &mut desk, reader, writer);
-        (BrokerWorker { desk }, served)
+    ) -> Result<(), Failure> {
+        serving::connection(rt, alloc, &mut self.desk, reader, writer)
     }
 }
 
@@ -139,7 +143,8 @@ impl<'a, J: Naming + Settling, S: Storage + Drop> Model for LastingWorker<'a, J,
 impl<'a, J: Naming + Settling, S: Storage + Drop> LastingWorker<'a, J, S> {
     /// The token of the session up to which all that is settled is answered; none where nothing is.
     pub(crate) fn into_token(self) -> Option<Assured<J>>
-        ensures { IfSome result (IsSettled J.clients J.first) }
+        ensures turns { AreTurns self.entry }
+        ensures settled { IsSettledBy J.clients J.first result self.entry.settled }
     {
         let desk = self.desk.into_desk().into_desk();
         desk.has_told();
@@ -149,18 +154,16 @@ impl<'a, J: Naming + Settling, S: Storage + Drop> LastingWorker<'a, J, S> {
 
 impl<'a, J: Naming + Settling, S: Storage + Drop> Worker for LastingWorker<'a, J, S> {
     fn serve<R: Wait>(
-        self,
+        &mut self,
         rt: &R,
         alloc: Global,
         reader: &mut Incoming<'_>,
         writer: &mut Outgoing<'_>,
-    ) -> (Self, Result<(), Failure>) {
-        let LastingWorker { mut desk } = self;
-        if desk.desk.unsettled >= MAX_FAILURES {
-            return (LastingWorker { desk }, Err(Failure::NotKept));
+    ) -> Result<(), Failure> {
+        if self.desk.desk.unsettled >= MAX_FAILURES {
+            return Err(Failure::NotKept);
         }
-        let served = serving::lasting_connection(rt, alloc, &mut desk, reader, writer);
-        (LastingWorker { desk }, served)
+        serving::lasting_connection(rt, alloc, &mut self.desk, reader, writer)
     }
 }
 

@@ -1,11 +1,11 @@
 //! How a shared broker begins, and what it leaves.
 
-ghost use Rattle.std.specs.Prelude.{◌≡◌, ◌⊎◌, All, IfErr, IfOk};
+ghost use Rattle.std.specs.Prelude.{◌≡◌, ◌⊎◌, ℕ, IfErr, IfOk};
 ghost use Rattle.session.specs.Sessions.{IsUncalled};
 ghost use Rattle.workers.specs.Opening.{IsInUse, IsNameOf};
 ghost use Rattle.workers.specs.Seats.{AreAllInOrder};
 ghost use Rattle.serving.specs.Image.{IsBusyOrNoMemory, IsOpenedOver};
-ghost use Rattle.server.specs.Worked.{IsImageServed, IsMarked};
+ghost use Rattle.server.specs.Worked.{AreKnown, IsImageServed, all_told};
 
 use named::Broker;
 use seating::Seating;
@@ -70,12 +70,13 @@ pub(crate) fn image_left<J: Naming>(
     alloc: Global,
     shared: Shared<J>,
     seats: Seating<J>,
+    workers: u32,
     marks: Vec<Marked<J>>,
 ) -> Result<Vec<u8>, Refusal>
     requires opened { IsOpenedOver J.first.broker J.first }
     requires clients { J.clients ≡ J.first.broker.counts.clients }
-    requires marks { All (IsMarked J.clients J.first) marks.items }
-    ensures image { IfOk result (λ bytes. IsImageServed J.first.broker bytes.items) }
+    requires marks { AreKnown all_told J.clients J.first workers marks.items }
+    ensures image { IfOk result (λ bytes. IsImageServed J.first.broker workers bytes.items) }
     ensures errors { IfErr result IsBusyOrNoMemory }
 {
     let (seats, operator) = seats.into_parts(alloc)?;

@@ -1,11 +1,11 @@
 //! Serving connections with a journal.
 
-ghost use Rattle.std.specs.Prelude.{◌≡◌, All, IfOk};
+ghost use Rattle.std.specs.Prelude.{◌≡◌, max, All, IfOk, vec_len};
 ghost use Rattle.session.specs.Sessions.{IsUncalled};
 ghost use Rattle.workers.specs.Moments.{GoesOnLater, IsFirstMoment};
 ghost use Rattle.workers.specs.Opening.{IsNameOf};
 ghost use Rattle.serving.specs.Image.{IsOpenedOver};
-ghost use Rattle.server.specs.Worked.{IsLeftServed, IsSettled};
+ghost use Rattle.server.specs.Worked.{AreKnown, IsLeftServed, settled_told};
 
 use crate::connections::{InJournal, LastingWorker};
 use crate::lasting_broker::LastingBroker;
@@ -49,28 +49,49 @@ fn work_to_end<
     rt: &R,
     alloc: Global,
     desks: &InJournal<'a, J, S>,
-    stopping: &Stopping,
     workers: u32,
     listener: &TcpListener,
-) -> Result<Vec<Option<LastingWorker<'a, J, S>>>, AllocError> {
-    let worked = work(rt, alloc, desks, stopping, workers, listener);
-    stopping.end();
+) -> Result<Vec<LastingWorker<'a, J, S>>, AllocError>
+    ensures { IfOk result (λ worked. vec_len worked ≡ workers) }
+{
+    let worked = work(rt, alloc, desks, desks.stopping, workers, listener);
+    desks.stopping.end();
+    worked
+}
+
+/// Takes connections and serves them, as [`work`] does, and keeps the journal each second until all have ended.
+fn work_keeping<
+    'a,
+    J: Naming + Settling + Send + Sync,
+    S: Storage + Drop + Send,
+    R: Threads + Wait + Net + Clock + Log + Sync,
+>(
+    rt: &R,
+    alloc: Global,
+    desks: &InJournal<'a, J, S>,
+    workers: u32,
+    listener: &TcpListener,
+) -> Result<Vec<LastingWorker<'a, J, S>>, AllocError>
+    ensures { IfOk result (λ worked. vec_len worked ≡ workers) }
+{
+    let ((), worked) = join(
+        rt,
+        || keep_beside(rt, desks.journal, desks.stopping),
+        || work_to_end(rt, alloc, desks, workers, listener),
+    );
     worked
 }
 
 /// The last token of each worker that has one.
 fn tokens_of<J: Naming + Settling, S: Storage + Drop>(
     alloc: Global,
-    workers: Vec<Option<LastingWorker<'_, J, S>>>,
+    workers: Vec<LastingWorker<'_, J, S>>,
 ) -> Result<Vec<Assured<J>>, AllocError>
-    ensures { IfOk result (λ tokens. All (IsSettled J.clients J.first) tokens.items) }
+    ensures { IfOk result (λ tokens. AreKnown settled_told J.clients J.first (vec_len workers.entry) tokens.items) }
 {
     let mut tokens = Vec::new(alloc);
     tokens.reserve(workers.len())?;
     for worker in workers {
-        let Some(worker) = worker else {
-            continue;
-        };
         if let Some(token) = worker.into_token() {
             tokens.push_reserved(token);
         }
@@ -92,7 +113,7 @@ fn work_beside<
     workers: u32,
     listener: &TcpListener,
 ) -> Result<Vec<Assured<J>>, AllocError>
-    ensures { IfOk result (λ tokens. All (IsSettled J.clients J.first) tokens.items) }
+    ensures { IfOk result (λ tokens. AreKnown settled_told J.clients J.first workers tokens.items) }
 {
     let stopping = Stopping::new(alloc)?;
     let desks = InJournal {
@@ -104,12 +125,8 @@ fn work_beside<
         let worked = work(rt, alloc, &desks, &stopping, workers, listener)?;
         return tokens_of(alloc, worked);
     }
-    let ((), worked) = join(
-        rt,
-        || keep_beside(rt, journal, &stopping),
-        || work_to_end(rt, alloc, &desks, &stopping, workers, listener),
-    );
-    tokens_of(alloc, worked?)
+    let worked = work_keeping(rt, alloc, &desks, workers, listener)?;
+    tokens_of(alloc, worked)
 }
 
 /// Hears tokens: the journal assures the session of each, and its last hand-on goes on from it.
@@ -141,7 +158,7 @@ fn serve_to_end<
     listener: &TcpListener,
 ) -> Result<(Settler<J, S>, Vec<Assured<J>>), AllocError>
     ensures policy { IfOk result (λ r. r.0.policy ≡ J.policy) }
-    ensures settled { IfOk result (λ r. All (IsSettled J.clients J.first) r.1.items) }
+    ensures settled { IfOk result (λ r. AreKnown settled_told J.clients J.first workers r.1.items) }
 {
     let tokens = work_beside(rt, alloc, seats, &journal, workers, listener)?;
     // Where that fails for good, nothing is left.
@@ -167,7 +184,8 @@ fn served<
     requires moment { IsFirstMoment J.first }
     requires policy { journaling.policy ≡ J.policy }
     requires opened { IsOpenedOver J.first.broker J.first }
-    ensures { IfOk result (λ left. IsLeftServed J.first.broker left.image.items left.journal) }
+    ensures { IfOk result (λ left.
+        IsLeftServed J.first.broker (max service.workers 1) left.image.items left.journal) }
 {
     let LastingBroker {
         shared,
@@ -201,8 +219,8 @@ pub fn net_lasting<S: Storage + Drop + Send, R: Threads + Wait + Net + Clock + L
     listener: &TcpListener,
 ) -> Result<Left<S>, Unserved>
     requires { IsUncalled broker }
-    // The session whose image and journal are left goes on from tokens that workers had, behind what each settled.
-    ensures { IfOk result (λ left. IsLeftServed broker left.image.items left.journal) }
+    // The session whose image and journal are left goes on from all that the workers settled, each request in turn.
+    ensures { IfOk result (λ left. IsLeftServed broker (max service.workers 1) left.image.items left.journal) }
 {
     let noted = begin_noting(alloc, broker)?;
     served::<Brand, S, R>(rt, alloc, noted, service, journaling, listener)

@@ -1,15 +1,15 @@
 //! Serving connections.
 
-ghost use Rattle.std.specs.Prelude.{All, IfErr, IfOk};
+ghost use Rattle.std.specs.Prelude.{◌≡◌, max, IfErr, IfOk, length, vec_len};
 ghost use Rattle.session.specs.Sessions.{IsUncalled};
 ghost use Rattle.workers.specs.Opening.{IsNameOf};
 ghost use Rattle.serving.specs.Image.{IsBusyOrNoMemory, IsOpenedOver};
-ghost use Rattle.server.specs.Worked.{IsImageServed, IsMarked};
+ghost use Rattle.server.specs.Worked.{AreKnown, IsImageServed, all_told};
 
 use crate::connections::{BrokerWorker, Desks, InMemory, Worker};
 use crate::ending::{image_left, shareable, shared_seats};
 use crate::inbox::{Inbox, Post};
-use crate::rounds::{Serving, serve_connections};
+use crate::rounds::{Serving, Station, serve_connections};
 use crate::stopping::Stopping;
 use log::{Log, warn};
 use named::Broker;
@@ -138,18 +138,20 @@ fn wake_at_stop<R: Wait + Net + Log>(rt: &R, stopping: &Stopping, address: Optio
     }
 }
 
-/// The workers serve the connections that are taken, until no more are; those that served any are answered. At an `Err`
-/// there was no memory for their threads.
+/// The workers serve the connections that are taken, until no more are, and are answered. At an `Err` there was no
+/// memory for their threads.
 fn serve_all<W: Worker + Send + Drop, D: Desks<W> + Sync, R: Threads + Wait + Clock + Log + Sync>(
     rt: &R,
     alloc: Global,
     serving: &Serving<'_, D>,
-    posts: Vec<(&Inbox, Post)>,
-) -> Result<Vec<Option<W>>, AllocError> {
+    stations: Vec<Station<'_, W>>,
+) -> Result<Vec<W>, AllocError>
+    ensures { IfOk result (λ workers. vec_len workers ≡ vec_len stations.entry) }
+{
     map_vec(
         rt,
-        posts,
-        &|(inbox, post): (&Inbox, Post)| { serve_connections(rt, alloc, serving, inbox, post) },
+        stations,
+        &|station: Station<'_, W>| { serve_connections(rt, alloc, serving, station) },
     )
 }
 
@@ -162,12 +164,14 @@ fn serve_until_stopped<
     rt: &R,
     alloc: Global,
     serving: &Serving<'_, D>,
-    posts: Vec<(&Inbox, Post)>,
+    stations: Vec<Station<'_, W>>,
     address: Option<SocketAddr>,
-) -> Result<Vec<Option<W>>, AllocError> {
+) -> Result<Vec<W>, AllocError>
+    ensures { IfOk result (λ workers. vec_len workers ≡ vec_len stations.entry) }
+{
     let (worked, ()) = join(
         rt,
-        || serve_all(rt, alloc, serving, posts),
+        || serve_all(rt, alloc, serving, stations),
         || wake_at_stop(rt, serving.stopping, address),
     );
     worked
@@ -178,7 +182,10 @@ fn open_all<R: Net>(
     rt: &R,
     alloc: Global,
     workers: u32,
-) -> Result<(Vec<Inbox>, Vec<Post>), io::Error> {
+) -> Result<(Vec<Inbox>, Vec<Post>), io::Error>
+    ensures inboxes { IfOk result (λ both. vec_len both.0 ≡ workers) }
+    ensures posts { IfOk result (λ both. vec_len both.1 ≡ workers) }
+{
     let mut inboxes = Vec::new(alloc);
     let mut posts = Vec::new(alloc);
     for _ in 0..workers {
@@ -189,8 +196,32 @@ fn open_all<R: Net>(
     Ok((inboxes, posts))
 }
 
+/// A worker at each post.
+fn stations_of<'a, W: Worker + Drop, D: Desks<W>, R: Wait>(
+    rt: &R,
+    alloc: Global,
+    desks: &D,
+    inboxes: &'a [Inbox],
+    posts: Vec<Post>,
+) -> Result<Vec<Station<'a, W>>, AllocError>
+    requires { length inboxes.now ≡ vec_len posts }
+    ensures { IfOk result (λ stations. vec_len stations ≡ vec_len posts) }
+{
+    let mut stations = Vec::new(alloc);
+    for post in posts {
+        let inbox = &inboxes[stations.len()];
+        let worker = desks.worker(rt, alloc)?;
+        stations.push(Station {
+            worker,
+            inbox,
+            post,
+        })?;
+    }
+    Ok(stations)
+}
+
 /// Takes connections for so many workers, until a stop is accepted, or what was done lasts no more, and all connections
-/// have ended. At an `Err` there was no memory, or the system had no descriptors to wait with.
+/// have ended. It answers those workers. At an `Err` there was no memory, or the system had no descriptors to wait with.
 pub(crate) fn work<
     W: Worker + Send + Drop,
     D: Desks<W> + Sync,
@@ -202,45 +233,39 @@ pub(crate) fn work<
     stopping: &Stopping,
     workers: u32,
     listener: &TcpListener,
-) -> Result<Vec<Option<W>>, AllocError> {
+) -> Result<Vec<W>, AllocError>
+    ensures { IfOk result (λ worked. vec_len worked ≡ workers) }
+{
     let Ok((inboxes, posts)) = open_all(rt, alloc, workers) else {
         return Err(AllocError);
     };
+    let stations = stations_of(rt, alloc, desks, &inboxes, posts)?;
     let serving = Serving { desks, stopping };
     let address = listener.local_addr().ok();
-    let mut both = Vec::new(alloc);
-    for (inbox, post) in inboxes.iter().zip(posts) {
-        both.push((inbox, post))?;
-    }
     let ((), worked) = join(
         rt,
         || accept_to_end(rt, listener, stopping, &inboxes, MAX_CONNECTIONS),
-        || serve_until_stopped(rt, alloc, &serving, both, address),
+        || serve_until_stopped(rt, alloc, &serving, stations, address),
     );
     worked
 }
 
-/// The last mark of each worker that served any connection.
+/// The last mark of each worker.
 fn marks_of<J: Naming>(
     alloc: Global,
-    workers: Vec<Option<BrokerWorker<'_, J>>>,
+    workers: Vec<BrokerWorker<'_, J>>,
 ) -> Result<Vec<Marked<J>>, AllocError>
-    ensures { IfOk result (λ marks. All (IsMarked J.clients J.first) marks.items) }
+    ensures { IfOk result (λ marks. AreKnown all_told J.clients J.first (vec_len workers.entry) marks.items) }
 {
     let mut marks = Vec::new(alloc);
     marks.reserve(workers.len())?;
     for worker in workers {
-        let Some(worker) = worker else {
-            continue;
-        };
-        if let Some(marked) = worker.into_mark() {
-            marks.push_reserved(marked);
-        }
+        marks.push_reserved(worker.into_mark());
     }
     Ok(marks)
 }
 
-/// Serves connections at these seats, to the end, and answers the marks of those who served.
+/// Serves connections at these seats, to the end, by so many workers, and answers their marks.
 fn serve_seats<J: Naming + Send + Sync, R: Threads + Wait + Net + Clock + Log + Sync>(
     rt: &R,
     alloc: Global,
@@ -249,7 +274,7 @@ fn serve_seats<J: Naming + Send + Sync, R: Threads + Wait + Net + Clock + Log + 
     workers: u32,
     listener: &TcpListener,
 ) -> Result<Vec<Marked<J>>, AllocError>
-    ensures { IfOk result (λ marks. All (IsMarked J.clients J.first) marks.items) }
+    ensures { IfOk result (λ marks. AreKnown all_told J.clients J.first workers marks.items) }
 {
     let stopping = Stopping::new(alloc)?;
     let desks = InMemory {
@@ -271,12 +296,13 @@ fn served<J: Naming + Send + Sync, R: Threads + Wait + Net + Clock + Log + Sync>
 ) -> Result<Vec<u8>, Refusal>
     requires name { IsNameOf J.roll J.clients J.first opened }
     requires opened { IsOpenedOver J.first.broker J.first }
-    ensures image { IfOk result (λ bytes. IsImageServed J.first.broker bytes.items) }
+    ensures image { IfOk result (λ bytes. IsImageServed J.first.broker (max service.workers 1) bytes.items) }
     ensures errors { IfErr result IsBusyOrNoMemory }
 {
     let (shared, seats) = shared_seats::<J>(alloc, opened, service.renew)?;
-    match serve_seats(rt, alloc, &shared, &seats, service.workers.max(1), listener) {
-        Ok(marks) => image_left(alloc, shared, seats, marks),
+    let workers = service.workers.max(1);
+    match serve_seats(rt, alloc, &shared, &seats, workers, listener) {
+        Ok(marks) => image_left(alloc, shared, seats, workers, marks),
         Err(_) => Err(Refusal::NoMemory),
     }
 }
@@ -295,8 +321,8 @@ pub fn net<R: Threads + Wait + Net + Clock + Log + Sync>(
     listener: &TcpListener,
 ) -> Result<Vec<u8>, Refusal>
     requires { IsUncalled broker }
-    // The session whose image is left goes on from marks that workers had, behind what each answered in turn.
-    ensures image { IfOk result (λ bytes. IsImageServed broker bytes.items) }
+    // The session whose image is left goes on from all that the workers answered, each request in turn.
+    ensures image { IfOk result (λ bytes. IsImageServed broker (max service.workers 1) bytes.items) }
     ensures errors { IfErr result IsBusyOrNoMemory }
 {
     let opened = shareable(alloc, broker)?;

@@ -26,10 +26,18 @@ pub(crate) struct Serving<'a, D> {
     pub(crate) stopping: &'a Stopping,
 }
 
+/// A worker, and where it is handed its connections and waits for them.
+#[derive(Drop)]
+pub(crate) struct Station<'a, W> {
+    pub(crate) worker: W,
+    pub(crate) inbox: &'a Inbox,
+    pub(crate) post: Post,
+}
+
 /// A worker and its connections.
 #[derive(Drop)]
 struct Round<'a, W> {
-    worker: Option<W>,
+    worker: W,
     inbox: &'a Inbox,
     places: Vec<Option<Connection>>,
     /// Whether any of them is paused: it goes on before the worker waits.
@@ -40,25 +48,24 @@ struct Round<'a, W> {
 fn send_and_serve<W: Worker, R: Wait>(
     rt: &R,
     alloc: Global,
-    worker: W,
+    worker: &mut W,
     reader: &mut Incoming<'_>,
     writer: &mut Outgoing<'_>,
     ends: bool,
-) -> (W, Result<bool, Failure>)
+) -> Result<bool, Failure>
     requires reader { reader.old.failures ≡ 0 }
     requires writer { writer.old.failures ≡ 0 }
 {
     let Ok(all) = writer.send_kept() else {
-        return (worker, Err(Failure::WriteFailed));
+        return Err(Failure::WriteFailed);
     };
     if ends || !all {
-        return (worker, Ok(false));
+        return Ok(false);
     }
-    let (worker, served) = worker.serve(rt, alloc, reader, writer);
-    match served {
-        Ok(()) => (worker, Ok(true)),
-        Err(_) if reader.is_between() => (worker, Ok(true)),
-        Err(failure) => (worker, Err(failure)),
+    match worker.serve(rt, alloc, reader, writer) {
+        Ok(()) => Ok(true),
+        Err(_) if reader.is_between() => Ok(true),
+        Err(failure) => Err(failure),
     }
 }
 
@@ -66,9 +73,9 @@ fn send_and_serve<W: Worker, R: Wait>(
 fn turn_of<W: Worker, R: Wait + Log>(
     rt: &R,
     alloc: Global,
-    worker: W,
+    worker: &mut W,
     connection: Connection,
-) -> (W, Option<Connection>) {
+) -> Option<Connection> {
     let Connection {
         socket,
         part,
@@ -78,7 +85,7 @@ fn turn_of<W: Worker, R: Wait + Log>(
     } = connection;
     let mut writer = Outgoing::new(&socket, unsent);
     let mut reader = Incoming::new(&socket, part);
-    let (worker, served) = send_and_serve(rt, alloc, worker, &mut reader, &mut writer, ends);
+    let served = send_and_serve(rt, alloc, worker, &mut reader, &mut writer, ends);
     let flow = reader.flow();
     let part = reader.into_part();
     let unsent = writer.into_unsent();
@@ -86,22 +93,21 @@ fn turn_of<W: Worker, R: Wait + Log>(
         Ok(is_served) => is_served,
         Err(failure) => {
             ended(rt, failure);
-            return (worker, None);
+            return None;
         }
     };
     // It goes no further where all was read, and where a stop was accepted.
     let ends = ends || (is_served && (flow == Flow::Ended || flow == Flow::Goes));
     if ends && unsent.is_empty() {
-        return (worker, None);
+        return None;
     }
-    let connection = Connection {
+    Some(Connection {
         socket,
         part,
         unsent,
         paused: is_served && flow == Flow::Paused,
         ends,
-    };
-    (worker, Some(connection))
+    })
 }
 
 impl<'a, W: Worker + Drop> Round<'a, W> {
@@ -146,26 +152,11 @@ impl<'a, W: Worker + Drop> Round<'a, W> {
     }
 
     /// The connection in a place has its turn, if one is there.
-    fn turn<D: Desks<W>, R: Wait + Log>(
-        &mut self,
-        rt: &R,
-        alloc: Global,
-        serving: &Serving<'_, D>,
-        place: usize,
-    ) {
+    fn turn<R: Wait + Log>(&mut self, rt: &R, alloc: Global, place: usize) {
         let Some(connection) = self.places.get_mut(place).and_then(Option::take) else {
             return;
         };
-        let worker = match self.worker.take() {
-            Some(worker) => Ok(worker),
-            None => serving.desks.worker(rt, alloc),
-        };
-        let Ok(worker) = worker else {
-            self.inbox.closed();
-            return unserved(rt);
-        };
-        let (worker, connection) = turn_of(rt, alloc, worker, connection);
-        self.worker = Some(worker);
+        let connection = turn_of(rt, alloc, &mut self.worker, connection);
         match &connection {
             Some(connection) => self.paused = self.paused || connection.paused,
             None => self.inbox.closed(),
@@ -184,16 +175,11 @@ impl<'a, W: Worker + Drop> Round<'a, W> {
     }
 
     /// The connections that are paused have their turns.
-    fn go_on<D: Desks<W>, R: Wait + Log>(
-        &mut self,
-        rt: &R,
-        alloc: Global,
-        serving: &Serving<'_, D>,
-    ) {
+    fn go_on<R: Wait + Log>(&mut self, rt: &R, alloc: Global) {
         self.paused = false;
         for place in 0..self.places.len() {
             if self.is_paused(place) {
-                self.turn(rt, alloc, serving, place);
+                self.turn(rt, alloc, place);
             }
         }
     }
@@ -210,16 +196,20 @@ fn wait<R: Wait + Clock + Log>(rt: &R, post: &mut Post, looks: bool) {
 
 /// Serves the connections that are handed over, those that are ready in their turns, until all have ended and no more
 /// come. Those that come after an accepted stop are closed unserved, and so are those that come once what was done lasts
-/// no more. It answers the worker that served them, if any was served.
+/// no more. It answers the worker that served them, which is the one that it was given: it can make no other.
 pub(crate) fn serve_connections<W: Worker + Drop, D: Desks<W>, R: Wait + Clock + Log>(
     rt: &R,
     alloc: Global,
     serving: &Serving<'_, D>,
-    inbox: &Inbox,
-    mut post: Post,
-) -> Option<W> {
+    station: Station<'_, W>,
+) -> W {
+    let Station {
+        worker,
+        inbox,
+        mut post,
+    } = station;
     let mut round = Round {
-        worker: None,
+        worker,
         inbox,
         places: Vec::new(alloc),
         paused: false,
@@ -234,11 +224,11 @@ pub(crate) fn serve_connections<W: Worker + Drop, D: Desks<W>, R: Wait + Clock +
         for event in post.events.iter() {
             let token = event.token().0;
             if token != WAKES {
-                round.turn(rt, alloc, serving, token - 1);
+                round.turn(rt, alloc, token - 1);
             }
         }
         if paused {
-            round.go_on(rt, alloc, serving);
+            round.go_on(rt, alloc);
         }
         if serving.desks.has_failed() {
             serving.stopping.say();

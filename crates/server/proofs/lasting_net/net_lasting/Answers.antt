@@ -6,5 +6,5 @@ pub returns : goal.returns
 returns g c =
     let first = c.in_ok-noted.noted.noting.session in
     IfOk-weaker c.served.result _ _
-    (λ left served. left_of_opened c.args.broker first left.image.items left.journal c.in_ok-noted.ensures.opened served)
+    (λ left served. left_of_opened c.args.broker first _ left.image.items left.journal c.in_ok-noted.ensures.opened served)
     c.served.ensures

@@ -1,11 +1,16 @@
-use Rattle.std.proofs.Common.{◌+◌, ◌≤◌, vec_len, vec_capacity}
+use Rattle.std.proofs.Common.{◌≡◌, ◌++◌, ◌+◌, ◌≤◌, length, vec_len, vec_capacity}
 use Rattle.std.specs.Prelude.{All}
-use Rattle.std.specs.Vec.Iter.{into_iter_len}
-use Rattle.server.specs.Worked.{IsSettled}
+use Rattle.std.specs.Vec.Iter.{into_iter_items, into_iter_len}
+use Rattle.session.specs.Sessions.{Sessioned}
+use Rattle.workers.specs.Moments.{GoesOnLater}
+use Rattle.server.specs.Worked.{HasWorked, settled_told}
 use Rattle.server.proofs.lasting_net.tokens_of.Given as goal
 
 abbrev pub invariant-loop-worker : goal.invariant-loop-worker
 invariant-loop-worker g l = record {
-  all : All (IsSettled g.J.Naming.clients g.J.Naming.first) l.tokens.items;
+  parts : l.fn.workers.items ≡ l.yielded ++ into_iter_items l.worker-iterator;
+  counted : into_iter_len l.worker-iterator ≡ length (into_iter_items l.worker-iterator);
   room : vec_len l.tokens + into_iter_len l.worker-iterator ≤ vec_capacity l.tokens;
+  worked : (last : Sessioned) → GoesOnLater g.J.Naming.first last → All (λ s. GoesOnLater s last) l.tokens.items
+      → All (HasWorked settled_told g.J.Naming.clients g.J.Naming.first last) l.yielded;
 }

@@ -1,16 +1,10 @@
-use Rattle.std.proofs.Common.{Option, subst, sym}
-use Rattle.std.specs.Prelude.{IfSome}
-use Rattle.desk.specs.Serving.{Served}
-use Rattle.session.specs.Sessions.{Sessioned}
-use Rattle.server.specs.Worked.{AreTurns, IsMarked}
-use Rattle.server.proofs.Endings.{marked_at}
+use Rattle.std.proofs.Common.{◌∙◌, sym}
+use Rattle.chronicle.specs.Chronicled.{entries}
+use Rattle.server.proofs.Endings.{not_unmarked}
 use Rattle.server.proofs.connections.BrokerWorker.into_mark.Goals as goal
 
-pub returns : goal.returns
-returns g c =
+pub unreachable-requires : goal.unreachable-requires
+unreachable-requires g c =
     let desk = c.into_desk-desk.result in
-    let n = g.J.Naming.clients in
-    let first = g.J.Naming.first in
-    subst (λ (m : Option Sessioned). IfSome m (IsMarked n first)) (sym c.into_mark.ensures)
-    (marked_at n first desk.served desk.marked
-    (subst (λ (d : Served). AreTurns d.served) (sym c.into_desk-desk.ensures) c.self.invariant) c.has_told.ensures.turn)
+    not_unmarked g.J.Naming.clients g.J.Naming.first (entries desk.served) desk.marked c.has_told.ensures.turn
+    (sym c.into_mark.ensures ∙ c.in-None.is)

@@ -3,9 +3,9 @@ use Rattle.server.specs.Worked.AreTurns.{one_more}
 use Rattle.server.proofs.Pipes.{tells_by}
 use Rattle.server.proofs.connections.BrokerWorkerWorker.serve.Goals as goal
 
-pub invariant_of-result : goal.invariant_of-result
-invariant_of-result g c =
-    let served = c.connection-served in
+pub invariant_of-self : goal.invariant_of-self
+invariant_of-self g c =
+    let served = c.connection in
     let e = served.ensures in
     let old = c.self.inside.desk.desk.served in
     let new = served.new.desk.desk.served in
