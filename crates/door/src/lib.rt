@@ -10,4 +10,4 @@ mod standing;
 pub use judging::{Entry, judge};
 pub use laws::{bounds_are_fixed, secrets_can_be_said};
 pub use secret::{MAX_SECRET, MIN_SECRET, Secret, Unfit};
-pub use standing::{Standing, Welcome, standing};
+pub use standing::{Standing, Welcome};

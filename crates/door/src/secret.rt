@@ -76,7 +76,7 @@ fn is_printed(bytes: &[u8]) -> bool
 }
 
 /// Why these bytes are no secret, if they are none.
-fn unfit(bytes: &[u8]) -> Option<Unfit>
+fn fault_of(bytes: &[u8]) -> Option<Unfit>
     ensures { MatchOption result (IsFit bytes.now) (IsUnfit bytes.now) }
 {
     if bytes.len() < MIN_SECRET {
@@ -99,7 +99,7 @@ impl Secret {
         ensures unfit { IfErr result (λ why. IsUnfitFile bytes.items why) }
     {
         let text = without_newline(bytes);
-        if let Some(why) = unfit(&text) {
+        if let Some(why) = fault_of(&text) {
             return Err(why);
         }
         let digest = Sha256::digest(text.as_slice());

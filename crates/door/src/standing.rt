@@ -26,6 +26,16 @@ pub enum Standing<'a> {
 }
 
 impl<'a> Standing<'a> {
+    /// Where one stands over which nothing came yet: before the secret that is asked for, if one is.
+    pub fn at_first(secret: Option<&'a Secret>) -> Self
+        ensures { StandsBy secret.entry result }
+    {
+        match secret {
+            Some(secret) => Standing::Before(secret),
+            None => Standing::Inside(Welcome::new()),
+        }
+    }
+
     /// That the connection may come to a desk, if it may.
     pub fn welcome(&self) -> Option<&Welcome>
         ensures { IsSome result ↔ IsInside self.now }
@@ -37,12 +47,3 @@ impl<'a> Standing<'a> {
     }
 }
 
-/// Where a connection stands over which nothing came yet: before the secret that is asked for, if one is.
-pub fn standing<'a>(secret: Option<&'a Secret>) -> Standing<'a>
-    ensures { StandsBy secret.entry result }
-{
-    match secret {
-        Some(secret) => Standing::Before(secret),
-        None => Standing::Inside(Welcome::new()),
-    }
-}

@@ -1,7 +1,7 @@
 //! Connections before the door, whose first line has to say the secret, and inside.
 
 use crate::connections::{ended, unserved};
-use door::{Entry, Secret, Standing, judge, standing};
+use door::{Entry, Secret, Standing, judge};
 use engine::Failure;
 use log::Log;
 use sockets::{Connection, Heard, first_line};
@@ -25,7 +25,7 @@ impl<'a> Caller<'a> {
     pub(crate) fn new(connection: Connection, secret: Option<&'a Secret>) -> Self {
         Caller {
             connection,
-            standing: standing(secret),
+            standing: Standing::at_first(secret),
         }
     }
 }
