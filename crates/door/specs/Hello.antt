@@ -11,7 +11,7 @@ unfoldable pub said_in : Data → Option (List ℕ)
 said_in json =
     if key_count json == 2
     then option_and_then (λ op. if bytes_eq op (codes "hello") then text_at (codes "secret") json else None)
-      (text_at (codes "op") json)
+    (text_at (codes "op") json)
     else None
 
 -- the one that a text says

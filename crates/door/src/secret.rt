@@ -5,9 +5,8 @@ ghost use Rattle.std.specs.List.{list_all};
 ghost use Rattle.door.specs.Secrets.{IsFit, IsUnfit, IsUnfitFile, IsWithoutNewline, is_printed};
 
 use sha2::{Digest, Sha256};
-use std::fmt;
 use std::marker::Model;
-use std::str;
+use std::{fmt, str};
 
 /// The fewest bytes of a secret.
 pub const MIN_SECRET: usize = 32;
@@ -53,7 +52,9 @@ impl fmt::Display for Unfit {
         match self {
             Unfit::TooShort => write!(f, "a secret has {MIN_SECRET} bytes or more"),
             Unfit::TooLong => write!(f, "a secret has {MAX_SECRET} bytes at most"),
-            Unfit::NoText => f.write_str("a secret is one line of UTF-8 without control characters"),
+            Unfit::NoText => f.write_str(
+                "a secret is one line of UTF-8 without control characters",
+            ),
         }
     }
 }

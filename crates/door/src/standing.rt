@@ -46,4 +46,3 @@ impl<'a> Standing<'a> {
         }
     }
 }
-

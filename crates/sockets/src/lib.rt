@@ -3,13 +3,13 @@
 #![tactic(auto)]
 
 mod connection;
-mod first_line;
+mod hearing;
 mod incoming;
 mod outgoing;
 mod quiet;
 
 pub use connection::Connection;
-pub use first_line::{Heard, first_line};
+pub use hearing::{Heard, first_line};
 pub use incoming::{Flow, Incoming};
 pub use outgoing::Outgoing;
 pub use quiet::Quiet;

@@ -66,7 +66,8 @@ impl Quiet {
         ensures { MatchOption result (IsNoneSilent self.old) (IsSilent self.old) }
     {
         let (_, heard) = self.heard.peek_lru()?;
-        if self.now.saturating_duration_since(*heard) < self.limit {
+        let silence = self.now.saturating_duration_since(*heard);
+        if silence.as_nanos() < self.limit.as_nanos() {
             return None;
         }
         match self.heard.pop_lru() {
