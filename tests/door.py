@@ -189,7 +189,7 @@ def clients(pqd, path):
         with serving(pqd, "--secret", path, "--journal", f"{folder}/journal") as server:
             address = f"127.0.0.1:{server.port}"
             with Broker([address], client=0, secret=SECRET) as broker:
-                queue = broker.log("jobs")
+                queue = broker.log("jobs", create=True)
                 queue.put(b"hello")
                 case("a client that knows the secret", queue.take(), b"hello")
             for name, secret in ("another secret", "x" * 40), ("no secret", None):
