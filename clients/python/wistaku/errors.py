@@ -6,7 +6,7 @@
 | `NoRoom`, `NoClient`, `NoQueue`, `WrongKind`, `Gap`, `Old` | at once | it was not made |
 | `BadName`, `Exists`, `DirectoryFull`, `AlreadyReady` | at once, of a creation or an operator | it was not made |
 | `TooLong`, `BadJson`, `BadRequest`, and a name that is not known: `Refused` | at once | it was not made |
-| `Denied` | at once: the server does not take the secret | it was not made |
+| `Denied` | at once: the server does not take the secret, or asks for one | it was not made |
 | `NotOurs` | at once: the number is of another call | it was not made |
 | `Unreachable` | the patience is over, and the call was never sent | it was not made |
 | `InDoubt` | the patience is over (log), or at once (durable), and the call was sent | not known |
@@ -37,10 +37,6 @@ class InDoubt(WistakuError):
 
 class Unreachable(WistakuError):
     """No address gave a connection, and the call was not sent."""
-
-
-class Denied(WistakuError):
-    """The server does not take the secret, or knows of none."""
 
 
 class NotOurs(WistakuError):
@@ -158,6 +154,12 @@ class Full(Refused):
     """The server has as many connections as it serves at once, and has closed this one."""
 
     number = 31
+
+
+class Denied(Refused):
+    """The server does not take the secret, or asks for none and was told one; or it asks for one that was not told."""
+
+    number = 37
 
 
 NAMED = {it.__name__: it for it in Refused.__subclasses__()}

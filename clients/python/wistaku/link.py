@@ -21,7 +21,7 @@ class Lost(WistakuError):
 
 
 def line_of(request: Request) -> bytes:
-    return json.dumps(request, separators=(",", ":")).encode() + b"\n"
+    return json.dumps(request, separators=(",", ":"), ensure_ascii=False).encode() + b"\n"
 
 
 class Patience:
@@ -91,10 +91,12 @@ class Link:
             raise Lost(str(error)) from error
         if self.secret is not None:
             self.send([{"op": "hello", "secret": self.secret}])
-            denied = refusal(self.receive())
-            if denied is not None:
+            error = refusal(self.receive())
+            if error is not None:
                 self.drop()
-                raise Denied(f"the server answered hello by {denied}") from denied
+                if isinstance(error, RETRIED):
+                    raise Lost(str(error)) from error
+                raise Denied() from error
 
     def drop(self) -> None:
         """Leaves the connection, if there is one. The next one is to the next address."""

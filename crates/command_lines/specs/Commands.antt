@@ -38,11 +38,18 @@ with_journal_rules a = with_rule (with_rule (with_rule (with_rule (with_rule a
 abbrev pub pipe_app : App
 pipe_app = with_journal_rules (with_queue_rules (new_app (codes "pipe")))
 
-abbrev pub serve_app : App
-serve_app = with_rule (with_rule (with_rule (with_journal_rules (with_queue_rules (new_app (codes "serve"))))
+-- a command with the options of a server
+abbrev pub with_listening_rules : App → App
+with_listening_rules a = with_rule (with_rule (with_rule (with_rule (with_rule (with_rule a
     (option_rule (codes "listen")))
     (option_rule (codes "port")))
-    (option_rule (codes "workers"))
+    (option_rule (codes "workers")))
+    (option_rule (codes "connections")))
+    (option_rule (codes "idle")))
+    (option_rule (codes "secret"))
+
+abbrev pub serve_app : App
+serve_app = with_listening_rules (with_journal_rules (with_queue_rules (new_app (codes "serve"))))
 
 -- `pqd` itself, which wants a command, tells its version, and has no command that is called help
 abbrev pub top_app : App

@@ -186,7 +186,7 @@ const PIPE: DescribedCommand<'static> = DescribedCommand {
 };
 
 /// `serve [--clients T] [--records K] [--image FILE] [--journal FILE [--sync WHEN]] [--renew] [--listen ADDRESS] [--port P]
-/// [--workers N]`, and the options of a log
+/// [--workers N] [--connections C] [--idle SECONDS] [--secret FILE]`, and the options of a log
 const SERVE: DescribedCommand<'static> = DescribedCommand {
     name: "serve",
     about: "Answers the requests of connections to a port",
@@ -218,7 +218,22 @@ const SERVE: DescribedCommand<'static> = DescribedCommand {
         Described {
             name: "workers",
             form: Form::Option("N"),
-            help: "The connections that are served at once, 1 to 16 [default: 4]",
+            help: "The threads that serve, 1 to 16 [default: 4]",
+        },
+        Described {
+            name: "connections",
+            form: Form::Option("C"),
+            help: "The connections that are open at most, 1 to 65536 [default: 1024]",
+        },
+        Described {
+            name: "idle",
+            form: Form::Option("SECONDS"),
+            help: "Closes a connection over which no line comes for so long, 1 to 86400; without it none",
+        },
+        Described {
+            name: "secret",
+            form: Form::Option("FILE"),
+            help: "Serves those alone whose first line says the secret in this file, of 32 bytes or more",
         },
     ],
 };

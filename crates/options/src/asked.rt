@@ -2,7 +2,7 @@
 
 ghost use Rattle.std.specs.Prelude.{◌≤◌};
 ghost use Rattle.words.specs.declared.limits.TheConstants.{MAX_CLIENTS, MAX_RECORDS};
-ghost use Rattle.options.specs.declared.limits.TheConstants.{MAX_PATIENCE, MAX_WORKERS};
+ghost use Rattle.options.specs.declared.limits.TheConstants.{MAX_CONNECTIONS, MAX_PATIENCE, MAX_WORKERS};
 
 use std::net::IpAddr;
 
@@ -21,7 +21,7 @@ pub struct Options<'a> {
     /// that has no room, while connections are served.
     pub renew: bool,
     /// How clients reach the broker.
-    pub mode: Mode,
+    pub mode: Mode<'a>,
     ghost some_clients: { 1 ≤ clients },
     ghost few_clients: { clients ≤ MAX_CLIENTS },
     ghost some_records: { 1 ≤ records },
@@ -79,22 +79,30 @@ pub enum Syncing {
 
 /// How clients reach the broker.
 #[derive(Clone, Copy)]
-pub enum Mode {
+pub enum Mode<'a> {
     /// By standard input and standard output.
     Pipe,
     /// By the network.
-    Serve(Listening),
+    Serve(Listening<'a>),
 }
 
-/// Where a server listens, and how many connections it serves at once.
+/// Where a server listens, and which connections it serves.
 #[derive(Clone, Copy)]
-pub struct Listening {
+pub struct Listening<'a> {
     /// Who reaches it reaches the server.
     pub address: IpAddr,
     /// 0 lets the system choose.
     pub port: u16,
     /// The threads that serve, from 1 to `MAX_WORKERS`.
     pub workers: u32,
+    /// The connections that are open at most, from 1 to `MAX_CONNECTIONS`.
+    pub connections: u32,
+    /// For how many seconds no line comes over a connection before it is closed, if any is closed so.
+    pub idle: Option<u32>,
+    /// The path of the file with the secret that the first line of each connection has to say, if it has to.
+    pub secret: Option<&'a str>,
     ghost some_workers: { 1 ≤ workers },
     ghost few_workers: { workers ≤ MAX_WORKERS },
+    ghost some_connections: { 1 ≤ connections },
+    ghost few_connections: { connections ≤ MAX_CONNECTIONS },
 }

@@ -12,8 +12,9 @@ mod pqx_line;
 
 pub use asked::{FileJournal, Journaling, Listening, LogJournal, Mode, Options, Syncing, Taking};
 pub use limits::{
-    DEFAULT_CLIENTS, DEFAULT_DRAW, DEFAULT_PATIENCE, DEFAULT_PORT, DEFAULT_RECORDS,
-    DEFAULT_WORKERS, MAX_DRAW, MAX_PATIENCE, MAX_PORT, MAX_WORKERS, limits_are_fixed,
+    DEFAULT_CLIENTS, DEFAULT_CONNECTIONS, DEFAULT_DRAW, DEFAULT_PATIENCE, DEFAULT_PORT,
+    DEFAULT_RECORDS, DEFAULT_WORKERS, MAX_CONNECTIONS, MAX_DRAW, MAX_IDLE, MAX_PATIENCE, MAX_PORT,
+    MAX_WORKERS, limits_are_fixed,
 };
 pub use line::asked_in;
 pub use number::Misfit;

@@ -3,6 +3,7 @@
 ghost use Rattle.std.specs.Prelude.{◌≡◌};
 ghost use Rattle.options.specs.declared.limits.TheConstants.{DEFAULT_CLIENTS, DEFAULT_RECORDS, DEFAULT_PORT, DEFAULT_WORKERS};
 ghost use Rattle.options.specs.declared.limits.TheConstants.{DEFAULT_PATIENCE, MAX_PATIENCE};
+ghost use Rattle.options.specs.declared.limits.TheConstants.{DEFAULT_CONNECTIONS, MAX_CONNECTIONS, MAX_IDLE};
 ghost use Rattle.options.specs.declared.limits.TheConstants.{DEFAULT_DRAW, MAX_DRAW, MAX_POINT, MAX_PORT, MAX_WORKERS};
 
 use crate::number::NumberOption;
@@ -26,6 +27,15 @@ pub const DEFAULT_WORKERS: u32 = 4;
 /// The most workers of a server.
 pub const MAX_WORKERS: u32 = 16;
 
+/// The connections of a server where `--connections` is not given.
+pub const DEFAULT_CONNECTIONS: u32 = 1_024;
+
+/// The most connections of a server.
+pub const MAX_CONNECTIONS: u32 = 65_536;
+
+/// The most seconds for which no line may come over a connection.
+pub const MAX_IDLE: u32 = 86_400;
+
 /// For how many seconds a request to etcd is sent again where `--patience` is not given.
 pub const DEFAULT_PATIENCE: u32 = 60;
 
@@ -48,6 +58,8 @@ pub fn limits_are_fixed()
     ensures records { DEFAULT_RECORDS ≡ 256 }
     ensures port { (DEFAULT_PORT ≡ 7070) × (MAX_PORT ≡ 65535) }
     ensures workers { (DEFAULT_WORKERS ≡ 4) × (MAX_WORKERS ≡ 16) }
+    ensures connections { (DEFAULT_CONNECTIONS ≡ 1024) × (MAX_CONNECTIONS ≡ 65536) }
+    ensures idle { MAX_IDLE ≡ 86400 }
     ensures patience { (DEFAULT_PATIENCE ≡ 60) × (MAX_PATIENCE ≡ 86400) }
     ensures draw { (DEFAULT_DRAW ≡ 1) × (MAX_DRAW ≡ 18446744073709551615) }
     ensures point { MAX_POINT ≡ 18446744073709551615 }
@@ -83,6 +95,22 @@ pub(crate) const WORKERS: NumberOption = NumberOption {
     least: 1,
     most: MAX_WORKERS,
     default: DEFAULT_WORKERS,
+};
+
+/// `--connections C`
+pub(crate) const CONNECTIONS: NumberOption = NumberOption {
+    name: "connections",
+    least: 1,
+    most: MAX_CONNECTIONS,
+    default: DEFAULT_CONNECTIONS,
+};
+
+/// `--idle SECONDS`, which is read where it is given alone
+pub(crate) const IDLE: NumberOption = NumberOption {
+    name: "idle",
+    least: 1,
+    most: MAX_IDLE,
+    default: MAX_IDLE,
 };
 
 /// `--patience S`

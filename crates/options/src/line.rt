@@ -2,18 +2,30 @@
 
 ghost use Rattle.std.specs.Prelude.{◌≡◌, IfOk, OnErr, Some};
 ghost use Rattle.clap.specs.Words.{first_value, found_of, subcommand_rows_of};
-ghost use Rattle.options.specs.Asked.{AllFit, Asks, IsKnown, ListeningFits, ListensBy};
+ghost use Rattle.options.specs.Asked.{AllFit, Asks, IdleFits, IsIdleGiven, IsKnown, ListeningFits, ListensBy};
 ghost use Rattle.options.specs.Asked.{CommandAsks, CommandFits, name_in};
+ghost use Rattle.options.specs.Numbers.{given_text};
 
 use crate::address::address;
 use crate::asked::{Listening, Mode, Options};
 use crate::journaling::{is_set, journaling};
-use crate::limits::{CLIENTS, PORT, RECORDS, WORKERS};
+use crate::limits::{CLIENTS, CONNECTIONS, IDLE, PORT, RECORDS, WORKERS};
 use crate::number::Misfit;
 use clap::ArgMatches;
 
+/// For how many seconds no line comes over a connection before it is closed, if that is given.
+fn idle(given: Option<&str>) -> Result<Option<u32>, Misfit>
+    ensures seconds { IfOk result (IsIdleGiven (given_text given.entry)) }
+    ensures misfit { OnErr result (¬ (IdleFits (given_text given.entry))) }
+{
+    match given {
+        Some(_) => Ok(Some(IDLE.read(given)?)),
+        None => Ok(None),
+    }
+}
+
 /// Where `serve` listens.
-fn listening(given: &ArgMatches<'_>) -> Result<Listening, Misfit>
+fn listening<'a>(given: &ArgMatches<'a>) -> Result<Listening<'a>, Misfit>
     ensures asked { IfOk result (ListensBy (first_value (found_of given.now))) }
     ensures misfit { OnErr result (¬ (ListeningFits (first_value (found_of given.now)))) }
 {
@@ -21,6 +33,9 @@ fn listening(given: &ArgMatches<'_>) -> Result<Listening, Misfit>
         address: address(given.get_str("listen"))?,
         port: PORT.read(given.get_str("port"))? as u16,
         workers: WORKERS.read(given.get_str("workers"))?,
+        connections: CONNECTIONS.read(given.get_str("connections"))?,
+        idle: idle(given.get_str("idle"))?,
+        secret: given.get_str("secret"),
     })
 }
 

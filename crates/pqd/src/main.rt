@@ -5,13 +5,17 @@ ghost use Rattle.std.specs.Prelude.{◌≡◌, IfOk};
 ghost use Rattle.opening.specs.Sessions.{IsUncalled};
 ghost use Rattle.pqd.specs.declared.Fault.TheVariants.{Refused};
 
+mod entering;
 mod image;
 mod keeping;
 mod logging;
+mod secret;
 mod standby;
 
 use command_lines::command_line;
 use devices::{CountedReader, CountedWriter};
+use door::Unfit;
+use entering::bound;
 use etcd_log::Undone;
 use log::Log;
 use named::Broker;
@@ -21,7 +25,7 @@ use server::{Service, net};
 use serving::{Unserved, pipe};
 use std::fs::File;
 use std::io;
-use std::net::{Net, SocketAddr, TcpListener};
+use std::net::Net;
 use std::process::ExitCode;
 use std::sync::Wait;
 use std::thread::Threads;
@@ -51,6 +55,9 @@ enum Fault {
     /// What etcd has is no log.
     #[error("36 BadLog")]
     BadLog,
+    /// What is given is no secret.
+    #[error("{0}")]
+    Secret(Unfit),
     /// What is given is no log's address.
     #[error("the option '--journal' takes a file, or etcd://HOST:PORT,../NAME")]
     Address,
@@ -125,40 +132,8 @@ fn fill_places(rt: &HostRuntime) -> [io::Result<File>; 3] {
     ]
 }
 
-/// A listener of the address, with the one that it has.
-fn bound(rt: &HostRuntime, at: Listening) -> Result<(TcpListener, SocketAddr), Fault> {
-    let Ok(listener) = TcpListener::bind(rt, SocketAddr::from((at.address, at.port))) else {
-        return Err(Fault::Listen);
-    };
-    match listener.local_addr() {
-        Ok(address) => Ok((listener, address)),
-        Err(_) => Err(Fault::Listen),
-    }
-}
-
-/// Says where it listens, and who is served there where that is not this machine alone.
-fn tell_address(rt: &HostRuntime, at: Listening, address: SocketAddr) -> Result<(), Fault> {
-    if !at.address.is_loopback() {
-        let said = eprintln!(rt; "pqd: whoever reaches {address} is served: there is no password");
-        if said.is_err() {
-            return Err(Fault::Refused(Refusal::WriteFailed));
-        }
-    }
-    match println!(rt; "listening {address}") {
-        Ok(()) => Ok(()),
-        Err(_) => Err(Fault::Refused(Refusal::WriteFailed)),
-    }
-}
-
-/// A listener of the address, once it has said where it listens.
-fn listener_at(rt: &HostRuntime, at: Listening) -> Result<TcpListener, Fault> {
-    let (listener, address) = bound(rt, at)?;
-    tell_address(rt, at, address)?;
-    Ok(listener)
-}
-
 /// How connections are served that are asked for so.
-fn service_of(at: Listening, asked: &Options<'_>) -> Service {
+fn service_of(at: Listening<'_>, asked: &Options<'_>) -> Service {
     Service {
         workers: at.workers,
         renew: asked.renew,
@@ -171,13 +146,14 @@ fn serve_connections<T: Threads + Wait + Net + Log + Clock + Sync>(
     rt: &HostRuntime,
     broker: Broker,
     service: Service,
-    at: Listening,
+    at: Listening<'_>,
 ) -> Result<Vec<u8>, Fault>
     requires { IsUncalled broker }
 {
     let _places = fill_places(rt);
-    let listener = listener_at(rt, at)?;
-    Ok(net(threads, rt.alloc(), broker, service, &listener)?)
+    let bound = bound(rt, at)?;
+    bound.tell(rt)?;
+    Ok(net(threads, rt.alloc(), broker, service, &bound.entrance())?)
 }
 
 /// Serves as the options ask, in memory. The image that it leaves.

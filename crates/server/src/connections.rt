@@ -8,6 +8,7 @@ ghost use Rattle.server.specs.Worked.{AreTurns, IsSettledBy};
 use crate::stopping::Stopping;
 use desk::BrokerDesk;
 use devices::MAX_FAILURES;
+use door::Welcome;
 use engine::Failure;
 use journal_file::Storage;
 use lasting::{Policy, Settling, SharedJournal};
@@ -24,11 +25,12 @@ use workers::{Assured, Marked, Naming, Shared};
 
 /// Who serves connections in turns, at one desk.
 pub(crate) trait Worker {
-    /// Serves what came in over a connection for now.
+    /// Serves what came in for now over a connection that may come to a desk.
     fn serve<R: Wait>(
         &mut self,
         rt: &R,
         alloc: Global,
+        welcome: &Welcome,
         reader: &mut Incoming<'_>,
         writer: &mut Outgoing<'_>,
     ) -> Result<(), Failure>
@@ -98,6 +100,7 @@ impl<'a, J: Naming> Worker for BrokerWorker<'a, J> {
         &mut self,
         rt: &R,
         alloc: Global,
+        _welcome: &Welcome,
         reader: &mut Incoming<'_>,
         writer: &mut Outgoing<'_>,
     ) -> Result<(), Failure> {
@@ -164,6 +167,7 @@ impl<'a, J: Naming + Settling, S: Storage + Drop> Worker for LastingWorker<'a, J
         &mut self,
         rt: &R,
         alloc: Global,
+        _welcome: &Welcome,
         reader: &mut Incoming<'_>,
         writer: &mut Outgoing<'_>,
     ) -> Result<(), Failure> {

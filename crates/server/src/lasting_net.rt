@@ -9,7 +9,7 @@ ghost use Rattle.server.specs.Worked.{AreKnown, IsLeftServed, settled_told};
 
 use crate::connections::{InJournal, LastingWorker};
 use crate::lasting_broker::LastingBroker;
-use crate::listening::{Service, work};
+use crate::listening::{Entrance, Service, work};
 use crate::stopping::Stopping;
 use journal_file::Storage;
 use lasting::{Settler, Settling, SharedJournal};
@@ -19,7 +19,7 @@ use seating::Seating;
 use serving::{Journaling, Left, Noted, Unserved, begin_noting};
 use std::alloc::{AllocError, Global};
 use std::marker::Brand;
-use std::net::{Net, TcpListener};
+use std::net::Net;
 use std::sync::Wait;
 use std::thread::Threads;
 use std::time::Clock;
@@ -54,7 +54,7 @@ fn serve_seats<
     seats: &Seating<J>,
     journal: &SharedJournal<'_, J, S>,
     workers: u32,
-    listener: &TcpListener,
+    entrance: &Entrance<'_>,
 ) -> Result<Vec<Assured<J>>, AllocError>
     ensures { IfOk result (λ tokens. AreKnown settled_told J.clients J.first workers tokens.items) }
 {
@@ -64,7 +64,7 @@ fn serve_seats<
         seats,
         stopping: &stopping,
     };
-    let workers = work(rt, alloc, &desks, &stopping, workers, listener)?;
+    let workers = work(rt, alloc, &desks, &stopping, workers, entrance)?;
     tokens_of(alloc, workers)
 }
 
@@ -94,12 +94,12 @@ fn serve_to_end<
     seats: &Seating<J>,
     journal: SharedJournal<'_, J, S>,
     workers: u32,
-    listener: &TcpListener,
+    entrance: &Entrance<'_>,
 ) -> Result<(Settler<J, S>, Vec<Assured<J>>), AllocError>
     ensures policy { IfOk result (λ r. r.0.policy ≡ J.policy) }
     ensures settled { IfOk result (λ r. AreKnown settled_told J.clients J.first workers r.1.items) }
 {
-    let tokens = serve_seats(rt, alloc, seats, &journal, workers, listener)?;
+    let tokens = serve_seats(rt, alloc, seats, &journal, workers, entrance)?;
     // Where that fails for good, nothing is left.
     let _ = journal.settle_and_keep(rt);
     Ok((journal.into_settler(), tokens))
@@ -116,7 +116,7 @@ fn served<
     noted: Noted,
     service: Service,
     journaling: Journaling<S>,
-    listener: &TcpListener,
+    entrance: &Entrance<'_>,
 ) -> Result<Left<S>, Unserved>
     requires name { IsNameOf J.roll J.clients J.first noted.noting }
     requires words { noted.words.items ≡ J.first.broker.words.kept }
@@ -133,7 +133,7 @@ fn served<
     } = LastingBroker::<J, S>::begin(alloc, noted, service.renew, journaling)?;
     let journal = SharedJournal::new(alloc, &shared, settler);
     let workers = service.workers.max(1);
-    match serve_to_end(rt, alloc, &seats, journal, workers, listener) {
+    match serve_to_end(rt, alloc, &seats, journal, workers, entrance) {
         Ok((settler, tokens)) => LastingBroker {
             shared,
             seats,
@@ -155,12 +155,12 @@ pub fn net_lasting<S: Storage + Drop + Send, R: Threads + Wait + Net + Clock + L
     broker: Broker,
     service: Service,
     journaling: Journaling<S>,
-    listener: &TcpListener,
+    entrance: &Entrance<'_>,
 ) -> Result<Left<S>, Unserved>
     requires { IsUncalled broker }
     // The session whose image and journal are left goes on from all that the workers settled, each request in turn.
     ensures { IfOk result (λ left. IsLeftServed broker (max service.workers 1) left.image.items left.journal) }
 {
     let noted = begin_noting(alloc, broker)?;
-    served::<Brand, S, R>(rt, alloc, noted, service, journaling, listener)
+    served::<Brand, S, R>(rt, alloc, noted, service, journaling, entrance)
 }

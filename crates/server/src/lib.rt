@@ -4,6 +4,7 @@
 
 mod connections;
 mod ending;
+mod greeting;
 mod inbox;
 mod lasting_broker;
 mod lasting_net;
@@ -19,4 +20,4 @@ pub use laws::{
     lives_go_on, replies_outlast_restarts, restarts_go_on, settled_numbers_outlast_restarts,
     told_replies_outlast_restarts,
 };
-pub use listening::{Service, net};
+pub use listening::{Entrance, Service, net};

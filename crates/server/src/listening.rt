@@ -11,6 +11,7 @@ use crate::ending::{image_left, shareable, shared_seats};
 use crate::inbox::{Inbox, Post};
 use crate::rounds::{Serving, Station, serve_connections};
 use crate::stopping::Stopping;
+use door::Secret;
 use log::{Log, warn};
 use named::Broker;
 use seating::Seating;
@@ -31,9 +32,6 @@ const REST_MILLIS: u64 = 10;
 /// How long a connection that wakes this thread waits to be taken.
 const WAKE_SECONDS: u64 = 1;
 
-/// How many connections are open at most.
-const MAX_CONNECTIONS: usize = 1_024;
-
 /// How connections are served.
 #[derive(Clone, Copy)]
 pub struct Service {
@@ -41,6 +39,18 @@ pub struct Service {
     pub workers: u32,
     /// Whether a queue begins in fresh records for a put or a take that finds no room, where that is worth it.
     pub renew: bool,
+}
+
+/// Where connections come in, and which are served.
+#[derive(Clone, Copy)]
+pub struct Entrance<'a> {
+    pub listener: &'a TcpListener,
+    /// How many are open at most.
+    pub connections: u32,
+    /// For how many seconds no line comes over one before it is closed, if any is closed so.
+    pub idle: Option<u32>,
+    /// What the first line of each has to say, if anything.
+    pub secret: Option<&'a Secret>,
 }
 
 /// What a connection is told that is one too many.
@@ -80,13 +90,13 @@ fn hand_over<R: Wait + Log>(rt: &R, inboxes: &[Inbox], most: usize, connection: 
 /// Takes connections and hands them to the workers, until no more are to be taken.
 fn accept<R: Wait + Clock + Log>(
     rt: &R,
-    listener: &TcpListener,
+    entrance: &Entrance<'_>,
     stopping: &Stopping,
     inboxes: &[Inbox],
-    most: usize,
 ) {
+    let most = entrance.connections as usize;
     let mut failing = false;
-    for connection in listener.incoming() {
+    for connection in entrance.listener.incoming() {
         if stopping.is_said() {
             return;
         }
@@ -110,12 +120,11 @@ fn accept<R: Wait + Clock + Log>(
 /// The same, and says at the end that no more are taken.
 fn accept_to_end<R: Wait + Clock + Log>(
     rt: &R,
-    listener: &TcpListener,
+    entrance: &Entrance<'_>,
     stopping: &Stopping,
     inboxes: &[Inbox],
-    most: usize,
 ) {
-    accept(rt, listener, stopping, inboxes, most);
+    accept(rt, entrance, stopping, inboxes);
     stopping.close();
     for inbox in inboxes {
         inbox.wake(rt);
@@ -255,7 +264,7 @@ pub(crate) fn work<
     desks: &D,
     stopping: &Stopping,
     workers: u32,
-    listener: &TcpListener,
+    entrance: &Entrance<'_>,
 ) -> Result<Vec<W>, AllocError>
     ensures { IfOk result (λ worked. vec_len worked ≡ workers) }
 {
@@ -263,11 +272,15 @@ pub(crate) fn work<
         return Err(AllocError);
     };
     let stations = stations_of(rt, alloc, desks, &inboxes, posts)?;
-    let serving = Serving { desks, stopping };
-    let address = listener.local_addr().ok();
+    let serving = Serving {
+        desks,
+        stopping,
+        entrance,
+    };
+    let address = entrance.listener.local_addr().ok();
     let ((), worked) = join(
         rt,
-        || accept_to_end(rt, listener, stopping, &inboxes, MAX_CONNECTIONS),
+        || accept_to_end(rt, entrance, stopping, &inboxes),
         || serve_until_stopped(rt, alloc, &serving, stations, address),
     );
     worked
@@ -295,7 +308,7 @@ fn serve_seats<J: Naming + Send + Sync, R: Threads + Wait + Net + Clock + Log + 
     shared: &Shared<J>,
     seats: &Seating<J>,
     workers: u32,
-    listener: &TcpListener,
+    entrance: &Entrance<'_>,
 ) -> Result<Vec<Marked<J>>, AllocError>
     ensures { IfOk result (λ marks. AreKnown all_told J.clients J.first workers marks.items) }
 {
@@ -305,7 +318,7 @@ fn serve_seats<J: Naming + Send + Sync, R: Threads + Wait + Net + Clock + Log + 
         seats,
         stopping: &stopping,
     };
-    let workers = work(rt, alloc, &desks, &stopping, workers, listener)?;
+    let workers = work(rt, alloc, &desks, &stopping, workers, entrance)?;
     marks_of(alloc, workers)
 }
 
@@ -315,7 +328,7 @@ fn served<J: Naming + Send + Sync, R: Threads + Wait + Net + Clock + Log + Sync>
     alloc: Global,
     opened: Opened,
     service: Service,
-    listener: &TcpListener,
+    entrance: &Entrance<'_>,
 ) -> Result<Vec<u8>, Refusal>
     requires name { IsNameOf J.roll J.clients J.first opened }
     requires opened { IsOpenedOver J.first.broker J.first }
@@ -324,15 +337,15 @@ fn served<J: Naming + Send + Sync, R: Threads + Wait + Net + Clock + Log + Sync>
 {
     let (shared, seats) = shared_seats::<J>(alloc, opened, service.renew)?;
     let workers = service.workers.max(1);
-    match serve_seats(rt, alloc, &shared, &seats, workers, listener) {
+    match serve_seats(rt, alloc, &shared, &seats, workers, entrance) {
         Ok(marks) => image_left(alloc, shared, seats, workers, marks),
         Err(_) => Err(Refusal::NoMemory),
     }
 }
 
-/// Serves the connections of a listener by worker threads, until a stop is accepted and all connections have ended; it
-/// answers the image of the broker as it is then. Each connection is given to the worker that has the fewest; beyond
-/// 1,024 one is told Full, and closed. Those that come after an accepted stop are closed unserved. It is refused before
+/// Serves the connections of an entrance by worker threads, until a stop is accepted and all connections have ended; it
+/// answers the image of the broker as it is then. Each connection is given to the worker that has the fewest; one too many
+/// is told Full, and closed. Those that come after an accepted stop are closed unserved. It is refused before
 /// any is taken where a call or a creation is under way (Busy), and for want of memory, or of descriptors to wait with
 /// (NoMemory); for want of memory also after all have ended. Where the threads to take connections and to serve them
 /// cannot be made, it does not return.
@@ -341,7 +354,7 @@ pub fn net<R: Threads + Wait + Net + Clock + Log + Sync>(
     alloc: Global,
     broker: Broker,
     service: Service,
-    listener: &TcpListener,
+    entrance: &Entrance<'_>,
 ) -> Result<Vec<u8>, Refusal>
     requires { IsUncalled broker }
     // The session whose image is left goes on from all that the workers answered, each request in turn.
@@ -349,5 +362,5 @@ pub fn net<R: Threads + Wait + Net + Clock + Log + Sync>(
     ensures errors { IfErr result IsBusyOrNoMemory }
 {
     let opened = shareable(alloc, broker)?;
-    served::<Brand, R>(rt, alloc, opened, service, listener)
+    served::<Brand, R>(rt, alloc, opened, service, entrance)
 }

@@ -13,6 +13,8 @@ pub struct Connection {
     pub unsent: Vec<u8>,
     /// Whether more of its input may be there, and others have their turn first.
     pub paused: bool,
+    /// Whether a line came over it in its last turn.
+    pub heard: bool,
     /// Whether it ends once all is sent.
     pub ends: bool,
 }
@@ -25,6 +27,7 @@ impl Connection {
             part: Vec::new(alloc),
             unsent: Vec::new(alloc),
             paused: false,
+            heard: false,
             ends: false,
         }
     }

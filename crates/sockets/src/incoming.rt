@@ -40,6 +40,7 @@ pub struct Incoming<'a> {
     part: Vec<u8>,
     flow: Flow,
     reads: u32,
+    has_lines: bool,
     failures: u64,
 }
 
@@ -53,6 +54,7 @@ impl<'a> Incoming<'a> {
             part,
             flow: Flow::Goes,
             reads: 0,
+            has_lines: false,
             failures: 0,
         }
     }
@@ -60,6 +62,11 @@ impl<'a> Incoming<'a> {
     /// What becomes of the input, as far as it was read.
     pub fn flow(&self) -> Flow {
         self.flow
+    }
+
+    /// Whether lines were handed on.
+    pub fn has_lines(&self) -> bool {
+        self.has_lines
     }
 
     /// Whether the turn is over, and more may come in another one.
@@ -145,8 +152,9 @@ impl Reader for Incoming<'_> {
 
     fn read(&mut self, buffer: &mut [u8]) -> Result<usize, Failed> {
         let result = self.read_lines(buffer);
-        if result.is_err() {
-            self.failures += 1;
+        match result {
+            Ok(read) => self.has_lines = self.has_lines || read > 0,
+            Err(Failed) => self.failures += 1,
         }
         result
     }

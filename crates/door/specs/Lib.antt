@@ -1,0 +1,3 @@
+pub mod Hello
+pub mod Judging
+pub mod Secrets
