@@ -1,0 +1,110 @@
+#!/usr/bin/env python3
+"""A log in an etcd that is asked by TLS alone and wants certificates, through examples/stunnel/etcd.conf.
+
+  python3 tls.py PQD          a line for each case: its name, a tab, and what is wrong, or nothing
+"""
+import contextlib
+import os
+import re
+import subprocess
+import sys
+import tempfile
+import time
+
+sys.dont_write_bytecode = True
+sys.path[:0] = [os.path.dirname(os.path.dirname(os.path.abspath(__file__))), os.path.dirname(os.path.abspath(__file__))]
+from journal_story import PQD, STORY, Broker
+from members import free_ports
+
+TOP = os.path.dirname(os.path.dirname(os.path.dirname(os.path.abspath(__file__))))
+QUIET = {"stdout": subprocess.DEVNULL, "stderr": subprocess.DEVNULL}
+
+
+def certified(folder, name, authority):
+    """A key, and a certificate of this authority, for 127.0.0.1."""
+    def ran(*words):
+        subprocess.run(["openssl", *words], cwd=folder, check=True, **QUIET)
+    if not os.path.exists(f"{folder}/{authority}.pem"):
+        ran("req", "-x509", "-newkey", "rsa:2048", "-nodes", "-keyout", f"{authority}.key", "-out", f"{authority}.pem",
+            "-subj", f"/CN={authority}", "-days", "2")
+    with open(f"{folder}/{name}.ext", "w", encoding="utf-8") as it:
+        it.write("subjectAltName=IP:127.0.0.1\nextendedKeyUsage=serverAuth,clientAuth\n")
+    ran("req", "-newkey", "rsa:2048", "-nodes", "-keyout", f"{name}.key", "-out", f"{name}.csr", "-subj", f"/CN={name}")
+    ran("x509", "-req", "-in", f"{name}.csr", "-CA", f"{authority}.pem", "-CAkey", f"{authority}.key", "-CAcreateserial",
+        "-days", "2", "-extfile", f"{name}.ext", "-out", f"{name}.pem")
+
+
+@contextlib.contextmanager
+def running(*words, folder):
+    process = subprocess.Popen(words, cwd=folder, **QUIET)
+    try:
+        yield process
+    finally:
+        process.kill()
+        process.wait()
+
+
+def member(folder, client, peer):
+    """A member that answers who has a certificate of the authority, and is alone."""
+    return running(
+        "etcd", "--name", "a", "--data-dir", "data", "--listen-client-urls", f"https://127.0.0.1:{client}",
+        "--advertise-client-urls", f"https://127.0.0.1:{client}", "--listen-peer-urls", f"http://127.0.0.1:{peer}",
+        "--initial-advertise-peer-urls", f"http://127.0.0.1:{peer}", "--initial-cluster", f"a=http://127.0.0.1:{peer}",
+        "--cert-file", "member.pem", "--key-file", "member.key", "--client-cert-auth", "--trusted-ca-file", "ca.pem",
+        "--logger", "zap", "--log-outputs", "log", folder=folder)
+
+
+def tunnel(folder, ports, client, **files):
+    """The tunnel as the example has it, at these ports to that one, with other files in the place of some."""
+    with open(f"{TOP}/examples/stunnel/etcd.conf", encoding="utf-8") as it:
+        text = it.read()
+    for port, wanted in zip(("2381", "2382", "2383"), ports):
+        text = text.replace(f"accept = 127.0.0.1:{port}", f"accept = 127.0.0.1:{wanted}")
+    text = re.sub(r"10\.0\.0\.[123]:2379", f"127.0.0.1:{client}", text)
+    text = re.sub(r"checkIP = .*", "checkIP = 127.0.0.1", text)
+    text = re.sub(r"/etc/stunnel/(\w+)\.(\w+)", lambda it: f"{folder}/{files.get(it[1], it[1])}.{it[2]}", text)
+    with open(f"{folder}/tunnel.conf", "w", encoding="utf-8") as it:
+        it.write(text)
+    return running("stunnel4", "tunnel.conf", folder=folder)
+
+
+def served(journal):
+    """The story, in two servers of which the first is killed. What is wrong."""
+    until = time.monotonic() + 30
+    at = 0
+    while at == 0 and time.monotonic() < until:
+        broker = Broker(journal)
+        at = min(broker.play(0), len(STORY) // 2)
+        broker.process.kill()
+        broker.end()
+    broker = Broker(journal)
+    reply = broker.ask({"op": "list"})
+    status, said = broker.end()
+    wanted = {"queues": [{"kind": "log", "queue": "a"}, {"kind": "durable", "queue": "b"}]}
+    return "" if (reply, status) == (wanted, 0) else f"{reply}, status {status}: {said}"
+
+
+def refused(journal):
+    """No member answers. What is wrong."""
+    words = [PQD, "pipe", "--journal", journal, "--patience", "2"]
+    ran = subprocess.run(words, stdin=subprocess.DEVNULL, capture_output=True, text=True)
+    return "" if (ran.returncode, ran.stderr) == (1, "pqd: 35 NoEngine\n") else f"status {ran.returncode}: {ran.stderr}"
+
+
+def main():
+    with tempfile.TemporaryDirectory() as folder:
+        client, peer, *ports = free_ports(5)
+        for name, authority in ("member", "ca"), ("pqd", "ca"), ("stranger", "other"):
+            certified(folder, name, authority)
+        journal = "etcd://" + ",".join(f"127.0.0.1:{port}" for port in ports) + "/test/tls"
+        with member(folder, client, peer):
+            with tunnel(folder, ports, client):
+                print("TLS: served", served(journal), sep="\t")
+            with tunnel(folder, ports, client, pqd="stranger"):
+                print("TLS: a client of another authority", refused(journal), sep="\t")
+            with tunnel(folder, ports, client, ca="other"):
+                print("TLS: a member of another authority", refused(journal), sep="\t")
+
+
+if __name__ == "__main__":
+    main()
