@@ -135,7 +135,7 @@ def killed_at(number, kind):
 class Caller:
     """Puts and takes of one client, one after another, in a queue where nothing else is."""
 
-    def __init__(self, log, *options, records=512):
+    def __init__(self, log, *options, records=1024):
         self.broker, self.number = Broker(log.journal, *options, records=records), 0
         told = self.broker.ask({"op": "told", "client": 0, "queue": "a"})
         if told.get("name") == "NoQueue":
@@ -225,7 +225,7 @@ def cases():
         for act in (Caller.call, Caller.question):
             yield (f"each answer to {act.__name__} {name}, in chunks of {chunk}",
                    lambda it=(of_turn(chunk), act): at_each_turn(*it))
-    for chunk in (0, 1):
+    for chunk in (0, 3):
         yield f"each answer in two pieces, in chunks of {chunk}", lambda it=chunk: at_each_turn(slow_at(it), Caller.call)
     yield "odd answers", lambda: at_each_turn(odd, Caller.call, len(ODD))
     yield "odd answers to starts", lambda: starting([lambda turn, it=it: odd(it) for it in range(len(ODD))])

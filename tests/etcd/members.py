@@ -30,25 +30,34 @@ def free_ports(count):
 
 
 class Members:
-    """Three members, as etcd's own command starts them. Each other, and who asks, reach them by relays alone."""
+    """Three members, as etcd's own command starts them. Each other, and who asks, reach them by relays alone, if there
+    are any."""
 
     harms = HARMS
 
-    def __init__(self, folder):
+    def __init__(self, folder, has_relays=True):
         self.folder, self.processes, self.names = folder, {}, {}
         self.counts = dict.fromkeys(HARMS, 0)
-        self.partings = Partings()
+        self.partings, self.relays = Partings(), []
         ports = free_ports(6)
         self.clients, self.peers = ports[:3], ports[3:]
-        self.client_relays = [Relay(self.partings, name, port, {}) for name, port in enumerate(self.clients)]
-        self.peer_relays = [Relay(self.partings, name, port, self.names) for name, port in enumerate(self.peers)]
-        self.journal = "etcd://" + ",".join(f"127.0.0.1:{it.port}" for it in self.client_relays) + "/test/story"
+        self.asked_at, self.known_at = list(self.clients), list(self.peers)
+        if has_relays:
+            self.begin_relays()
+        self.addresses = ",".join(f"127.0.0.1:{port}" for port in self.asked_at)
+        self.journal = f"etcd://{self.addresses}/test/story"
         for name in range(3):
             self.start(name)
         self.wait()
 
+    def begin_relays(self):
+        clients = [Relay(self.partings, name, port, {}) for name, port in enumerate(self.clients)]
+        peers = [Relay(self.partings, name, port, self.names) for name, port in enumerate(self.peers)]
+        self.asked_at, self.known_at = [it.port for it in clients], [it.port for it in peers]
+        self.relays = clients + peers
+
     def peer_address(self, name):
-        return f"http://127.0.0.1:{self.peer_relays[name].port}"
+        return f"http://127.0.0.1:{self.known_at[name]}"
 
     def start(self, name, state="new"):
         client = f"http://127.0.0.1:{self.clients[name]}"
@@ -86,7 +95,7 @@ class Members:
 
     def learn_names(self):
         """Whose the numbers are by which members call themselves."""
-        ports = {it.port: name for name, it in enumerate(self.peer_relays)}
+        ports = {port: name for name, port in enumerate(self.known_at)}
         for it in self.listed():
             self.names[f"{int(it['ID']):x}"] = ports[int(it["peerURLs"][0].rsplit(":", 1)[1])]
 
@@ -164,7 +173,7 @@ class Members:
         for process in self.processes.values():
             process.kill()
             process.wait()
-        for it in self.client_relays + self.peer_relays:
+        for it in self.relays:
             it.end()
 
 

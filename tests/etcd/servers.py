@@ -9,7 +9,7 @@ import threading
 import time
 
 PLACES = 3
-HARMS = ("killed", "killed and taken", "paused", "ended in order")
+HARMS = ("killed", "killed and taken", "paused", "stopping")
 # What changes nothing, and yet may not be answered by who has the log no more.
 QUESTIONS = ({"op": "told", "client": 0, "queue": "jobs"}, {"op": "list"}, {"op": "nonsense"})
 # With what a server may end that was not killed: another one has the log, or etcd did not answer for its patience.
@@ -33,7 +33,7 @@ def is_stopped(process):
 
 def asked(port, request):
     """A connection on which this was asked."""
-    connection = socket.create_connection(("127.0.0.1", port), timeout=30)
+    connection = socket.create_connection(("127.0.0.1", port), timeout=ENDS_WITHIN)
     connection.sendall(json.dumps(request).encode() + b"\n")
     return connection
 
@@ -115,8 +115,11 @@ class Servers:
 
     def other_than(self, server):
         """Waits until another one serves than this, and answers which."""
+        def serves():
+            return self.owner is not server and self.owner is not None and self.owner.process.poll() is None
         with self.changed:
-            self.changed.wait_for(lambda: self.owner is not server and self.owner is not None, ENDS_WITHIN * 4)
+            if not self.changed.wait_for(serves, ENDS_WITHIN * 4):
+                raise RuntimeError("nobody takes the log")
             return self.owner
 
     def watch(self):
@@ -152,10 +155,14 @@ class Servers:
                 return taker
 
     def harm(self, kind, draws):
-        """The one that serves is killed, or paused, or ended in order, and another one goes on."""
+        """The one that serves is killed, or paused, or told to stop, and another one goes on."""
         server = self.other_than(None)
-        getattr(self, kind.replace(" ", "_"))(server, draws)
-        self.counts[kind] += 1
+        try:
+            getattr(self, kind.replace(" ", "_"))(server, draws)
+            self.counts[kind] += 1
+        except (ProcessLookupError, ConnectionError):
+            # It has ended by itself meanwhile.
+            pass
 
     def killed(self, server, _):
         server.kill()
@@ -166,12 +173,11 @@ class Servers:
         time.sleep(draws.random() * 1.5)
         self.take_elsewhere(server)
 
-    def ended_in_order(self, server, _):
-        try:
-            heard(asked(server.port, {"op": "stop"}))
-        except OSError:
-            # It may have ended by itself.
-            pass
+    def stopping(self, server, draws):
+        """It is told to stop, and killed while it serves those on who are connected."""
+        heard(asked(server.port, {"op": "stop"}))
+        time.sleep(draws.random())
+        server.kill()
         self.other_than(server)
 
     def paused(self, server, _):

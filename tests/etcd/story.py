@@ -5,7 +5,7 @@
 
 `plain` has its engine from engine.py, whose exchanges go wrong by drawn faults. `etcd` has three members of etcd, which
 are killed, stopped and parted, and lose their folders, beside the servers. One server serves, and two stand by. It is
-killed (`kill -9`), or ended in order, or paused (SIGSTOP), taken over and woken up: then it may answer nothing. Each
+killed (`kill -9`), also while it stops, or paused (SIGSTOP), taken over and woken up: then it may answer nothing. Each
 client sends a number until it is answered, at whichever address. At the end all that is left is taken, each value that
 was acknowledged was taken once, and `pqx check` explains the recording.
 """

@@ -1,5 +1,6 @@
 #!/usr/bin/env python3
-"""A log in an etcd that is asked by TLS alone and wants certificates, through examples/stunnel/etcd.conf.
+"""A log in three members of etcd that are asked by TLS alone, also by each other, and want certificates, through
+examples/stunnel/etcd.conf.
 
   python3 tls.py PQD          a line for each case: its name, a tab, and what is wrong, or nothing
 """
@@ -44,23 +45,25 @@ def running(*words, folder):
         process.wait()
 
 
-def member(folder, client, peer):
-    """A member that answers who has a certificate of the authority, and is alone."""
+def member(folder, at, clients, peers):
+    """A member that answers who has a certificate of the authority."""
+    client, peer = f"https://127.0.0.1:{clients[at]}", f"https://127.0.0.1:{peers[at]}"
     return running(
-        "etcd", "--name", "a", "--data-dir", "data", "--listen-client-urls", f"https://127.0.0.1:{client}",
-        "--advertise-client-urls", f"https://127.0.0.1:{client}", "--listen-peer-urls", f"http://127.0.0.1:{peer}",
-        "--initial-advertise-peer-urls", f"http://127.0.0.1:{peer}", "--initial-cluster", f"a=http://127.0.0.1:{peer}",
+        "etcd", "--name", f"m{at}", "--data-dir", f"data{at}", "--listen-client-urls", client,
+        "--advertise-client-urls", client, "--listen-peer-urls", peer, "--initial-advertise-peer-urls", peer,
+        "--initial-cluster", ",".join(f"m{it}=https://127.0.0.1:{port}" for it, port in enumerate(peers)), "--pre-vote",
         "--cert-file", "member.pem", "--key-file", "member.key", "--client-cert-auth", "--trusted-ca-file", "ca.pem",
-        "--logger", "zap", "--log-outputs", "log", folder=folder)
+        "--peer-cert-file", "member.pem", "--peer-key-file", "member.key", "--peer-client-cert-auth",
+        "--peer-trusted-ca-file", "ca.pem", "--logger", "zap", "--log-outputs", f"log{at}", folder=folder)
 
 
-def tunnel(folder, ports, client, **files):
-    """The tunnel as the example has it, at these ports to that one, with other files in the place of some."""
+def tunnel(folder, ports, clients, **files):
+    """The tunnel as the example has it, at these ports to those, with other files in the place of some."""
     with open(f"{TOP}/examples/stunnel/etcd.conf", encoding="utf-8") as it:
         text = it.read()
-    for port, wanted in zip(("2381", "2382", "2383"), ports):
-        text = text.replace(f"accept = 127.0.0.1:{port}", f"accept = 127.0.0.1:{wanted}")
-    text = re.sub(r"10\.0\.0\.[123]:2379", f"127.0.0.1:{client}", text)
+    for at in range(3):
+        text = text.replace(f"127.0.0.1:{2381 + at}\n", f"127.0.0.1:{ports[at]}\n")
+        text = text.replace(f"10.0.0.{1 + at}:2379", f"127.0.0.1:{clients[at]}")
     text = re.sub(r"checkIP = .*", "checkIP = 127.0.0.1", text)
     text = re.sub(r"/etc/stunnel/(\w+)\.(\w+)", lambda it: f"{folder}/{files.get(it[1], it[1])}.{it[2]}", text)
     with open(f"{folder}/tunnel.conf", "w", encoding="utf-8") as it:
@@ -93,16 +96,19 @@ def refused(journal):
 
 def main():
     with tempfile.TemporaryDirectory() as folder:
-        client, peer, *ports = free_ports(5)
+        ports = free_ports(9)
+        ports, clients, peers = ports[:3], ports[3:6], ports[6:]
         for name, authority in ("member", "ca"), ("pqd", "ca"), ("stranger", "other"):
             certified(folder, name, authority)
         journal = "etcd://" + ",".join(f"127.0.0.1:{port}" for port in ports) + "/test/tls"
-        with member(folder, client, peer):
-            with tunnel(folder, ports, client):
+        with contextlib.ExitStack() as members:
+            for at in range(3):
+                members.enter_context(member(folder, at, clients, peers))
+            with tunnel(folder, ports, clients):
                 print("TLS: served", served(journal), sep="\t")
-            with tunnel(folder, ports, client, pqd="stranger"):
+            with tunnel(folder, ports, clients, pqd="stranger"):
                 print("TLS: a client of another authority", refused(journal), sep="\t")
-            with tunnel(folder, ports, client, ca="other"):
+            with tunnel(folder, ports, clients, ca="other"):
                 print("TLS: a member of another authority", refused(journal), sep="\t")
 
 
