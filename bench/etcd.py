@@ -25,7 +25,7 @@ sys.path.insert(0, str(TOP / "tests/etcd"))
 from members import Members, asked
 
 LOADS = (1, 1), (1, 64), (8, 1), (8, 64)
-# Behind so much of a load its appends are counted, and up to so long before its end.
+# Of a load its appends are counted but for so much at its beginning and at its end.
 MARGIN = 0.2
 # A client of pqd has room for 8 times 4,096 calls.
 PAIRS = 16_000
@@ -95,27 +95,33 @@ class Bench:
         server = subprocess.Popen(words, stdout=subprocess.PIPE, text=True)
         try:
             port = server.stdout.readline().rsplit(":", 1)[1].strip()
-            counted = []
-            counter = threading.Thread(target=self.count, args=(counted,))
-            counter.start()
+            seen, is_over = [], threading.Event()
+            watcher = threading.Thread(target=self.watch, args=(seen, is_over))
+            watcher.start()
             words = [self.pairs, "pqd", port, *map(str, load), str(PAIRS), str(self.seconds), str(server.pid)]
             ran = subprocess.run(words, capture_output=True, text=True, check=True)
-            counter.join()
+            ended = time.monotonic()
+            is_over.set()
+            watcher.join()
         finally:
             server.kill()
             server.wait()
         figures = ran.stdout.split()
-        return float(figures[0]), float(figures[1]), counted[0]
+        return float(figures[0]), float(figures[1]), self.changes(seen, ended)
 
     def revision(self):
         return int(asked(self.members.clients[0], "/v3/kv/range", {"key": b64(b"a")})["header"]["revision"])
 
-    def count(self, counted):
-        """Changes of etcd's a second, in the middle of a load."""
-        time.sleep(MARGIN)
-        first, begun = self.revision(), time.monotonic()
-        time.sleep(self.seconds - 2 * MARGIN)
-        counted.append((self.revision() - first) / (time.monotonic() - begun))
+    def watch(self, seen, is_over):
+        """How many changes etcd has had, at some times."""
+        while not is_over.wait(0.05):
+            seen.append((time.monotonic(), self.revision()))
+
+    def changes(self, seen, ended):
+        """Changes of etcd's a second in the middle of a load, which begins once its queues are there."""
+        within = [it for it in seen if ended - self.seconds + MARGIN <= it[0] <= ended - MARGIN]
+        (begun, first), (until, last) = within[0], within[-1]
+        return (last - first) / (until - begun)
 
     def piece_bytes(self, name):
         """How long the pieces of a log are that was appended to, but for those of its head: the median."""

@@ -1,20 +1,20 @@
 #!/usr/bin/env bash
 # A journal in etcd: servers that take it over from each other while clients call, over a plain engine whose exchanges
 # go wrong (tests/etcd/engine.py), each in each way and by draws, and over etcd itself where that is installed, whose
-# members are killed, stopped, parted and emptied. SECONDS_EACH is how long each drawn story is (30), and SEED what is
-# drawn; with PARTS, of `faults plain etcd tls`, it plays these alone. README and docs/CLUSTER.md say what a log is.
+# members are killed, stopped, parted and emptied. SECONDS_EACH is how long each drawn story is (20), and SEED what is
+# drawn; with PARTS, as `faults plain`, it plays these alone. README and docs/CLUSTER.md say what a log is.
 set -eu
 cd "$(dirname "$0")/.."
 . tests/cases.sh
 pqd=${PQD:-$PWD/crates/pqd/out/pqd}
 pqx=${PQX:-$PWD/crates/pqx/out/pqx}
 need "$pqd" "$pqx"
-each=${SECONDS_EACH:-30}
+each=${SECONDS_EACH:-20}
 seed=${SEED:-1}
 
 # Whether a part is played: PART
 is_part() {
-    [[ " ${PARTS:-options faults plain etcd tls} " == *" $1 "* ]]
+    [[ " ${PARTS:-options announced faults plain etcd tls} " == *" $1 "* ]]
 }
 
 # A story ends with status 0, or says why not: KIND
@@ -57,6 +57,9 @@ if is_part options; then
     for place in host:1 10.0.0.4:7070 '[::1]:65535' broker-1.example_net:7070; do
         refused '35 NoEngine' serve --port 0 --journal etcd://127.0.0.1:1/jobs --patience 1 --announce "$place"
     done
+fi
+if is_part announced; then
+    cases_of tests/etcd/announced.py
 fi
 if is_part faults; then
     cases_of tests/etcd/faults.py

@@ -14,6 +14,8 @@ import threading
 import time
 import typing
 
+from ports import Port
+
 ERROR = b'{"error":"etcdserver: request timed out","message":"etcdserver: request timed out","code":14}'
 
 
@@ -135,26 +137,12 @@ def framed(status, body, chunk):
     return text + b"0\r\nGrpc-Trailer-Content-Type: application/grpc\r\n\r\n"
 
 
-class Server:
+class Server(Port):
     """A member: a port where the engine is asked. `fates` says what becomes of each exchange."""
 
     def __init__(self, engine, fates, port=0):
         self.engine, self.fates = engine, fates
-        self.listener = socket.create_server(("127.0.0.1", port))
-        self.port = self.listener.getsockname()[1]
-        threading.Thread(target=self.serve, daemon=True).start()
-
-    def serve(self):
-        while True:
-            try:
-                connection, _ = self.listener.accept()
-            except OSError:
-                return
-            threading.Thread(target=self.talk, args=(connection,), daemon=True).start()
-
-    def end(self):
-        self.listener.shutdown(socket.SHUT_RDWR)
-        self.listener.close()
+        super().__init__(port)
 
     def talk(self, connection):
         try:

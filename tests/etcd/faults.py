@@ -9,6 +9,7 @@ import concurrent.futures
 import itertools
 import os
 import sys
+import tempfile
 import threading
 
 sys.dont_write_bytecode = True
@@ -132,6 +133,29 @@ def killed_at(number, kind):
         require(log.is_same_behind(late), "what came late changed something at the end")
 
 
+def played_to(broker, at, end):
+    """The story from there to the end of a part, by a server that is killed then."""
+    for request, wanted in STORY[at:end]:
+        reply = broker.ask(request)
+        require(reply == wanted, f"{request} was answered {reply}, and not {wanted}")
+    broker.process.kill()
+    broker.end()
+
+
+def moved():
+    """The journal of a file goes to the log, and back to another file, by an image, as docs/CLUSTER.md says. Each server
+    gives the last reply once more, and goes on."""
+    third = len(STORY) // 3
+    with Log() as log, tempfile.TemporaryDirectory() as folder:
+        image, places = f"{folder}/image", (f"{folder}/journal", log.journal, f"{folder}/other")
+        played_to(Broker(places[0]), 0, third)
+        for at, (place, other) in enumerate(itertools.pairwise(places), 1):
+            ended(Broker(place, "--image", image))
+            broker = Broker(other, "--image", image)
+            resend(broker, at * third - 1)
+            played_to(broker, at * third, (at + 1) * third if at == 1 else len(STORY))
+
+
 class Caller:
     """Puts and takes of one client, one after another, in a queue where nothing else is."""
 
@@ -227,6 +251,7 @@ def cases():
                    lambda it=(of_turn(chunk), act): at_each_turn(*it))
     for chunk in (0, 3):
         yield f"each answer in two pieces, in chunks of {chunk}", lambda it=chunk: at_each_turn(slow_at(it), Caller.call)
+    yield "a journal is moved to a log and back", moved
     yield "odd answers", lambda: at_each_turn(odd, Caller.call, len(ODD))
     yield "odd answers to starts", lambda: starting([lambda turn, it=it: odd(it) for it in range(len(ODD))])
     for chunk, apart in (65_536, 7), (0, 1):

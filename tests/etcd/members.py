@@ -3,12 +3,12 @@ import json
 import os
 import shutil
 import signal
-import socket
 import subprocess
 import time
 import urllib.error
 import urllib.request
 
+from ports import free_ports
 from relays import Partings, Relay
 
 HARMS = ("killed", "stopped", "parted", "cut off", "most killed", "all killed", "emptied")
@@ -19,14 +19,6 @@ def asked(port, path, request, timeout=5):
     message = urllib.request.Request(f"http://127.0.0.1:{port}{path}", json.dumps(request).encode())
     with urllib.request.urlopen(message, timeout=timeout) as answer:
         return json.load(answer)
-
-
-def free_ports(count):
-    listeners = [socket.create_server(("127.0.0.1", 0)) for _ in range(count)]
-    ports = [it.getsockname()[1] for it in listeners]
-    for it in listeners:
-        it.close()
-    return ports
 
 
 class Members:

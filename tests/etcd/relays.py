@@ -5,6 +5,8 @@ import socket
 import threading
 import time
 
+from ports import Port
+
 SENDER = re.compile(rb"\r\nX-Server-From: ([0-9a-f]+)\r\n", re.I)
 MOST_HEAD_BYTES = 65_536
 
@@ -41,27 +43,13 @@ class Partings:
             return bool({one, other} & self.parted), self.holds
 
 
-class Relay:
+class Relay(Port):
     """A port that leads to a member's. Members say in their requests' heads who they are: `names` has whose a number
     is."""
 
     def __init__(self, partings, name, port, names):
         self.partings, self.name, self.target, self.names = partings, name, port, names
-        self.listener = socket.create_server(("127.0.0.1", 0))
-        self.port = self.listener.getsockname()[1]
-        threading.Thread(target=self.serve, daemon=True).start()
-
-    def serve(self):
-        while True:
-            try:
-                connection, _ = self.listener.accept()
-            except OSError:
-                return
-            threading.Thread(target=self.lead, args=(connection,), daemon=True).start()
-
-    def end(self):
-        self.listener.shutdown(socket.SHUT_RDWR)
-        self.listener.close()
+        super().__init__()
 
     def may_pass(self, sender):
         """Waits while what is sent is held back. Whether the connection goes on."""
@@ -71,7 +59,7 @@ class Relay:
                 return not parted
             time.sleep(0.02)
 
-    def lead(self, connection):
+    def talk(self, connection):
         try:
             with connection:
                 head = head_of(connection)

@@ -8,6 +8,8 @@ import subprocess
 import threading
 import time
 
+from ports import free_ports
+
 PLACES = 3
 HARMS = ("killed", "killed and taken", "paused", "stopping")
 # What changes nothing, and yet may not be answered by who has the log no more.
@@ -15,11 +17,6 @@ QUESTIONS = ({"op": "told", "client": 0, "queue": "jobs"}, {"op": "list"}, {"op"
 # With what a server may end that was not killed: another one has the log, or etcd did not answer for its patience.
 FAIR = ("34 TakenOver", "31 NotKept", "35 NoEngine")
 ENDS_WITHIN = 90
-
-
-def free_port():
-    with socket.create_server(("127.0.0.1", 0)) as it:
-        return it.getsockname()[1]
 
 
 def is_stopped(process):
@@ -79,7 +76,7 @@ class Servers:
 
     def __init__(self, pqd, journal, folder, clients):
         self.pqd, self.journal, self.folder, self.clients = pqd, journal, folder, clients
-        self.ports = [free_port() for _ in range(PLACES)]
+        self.ports = free_ports(PLACES)
         self.counts = dict.fromkeys(HARMS, 0)
         self.answered_late = self.questions = self.starts = 0
         # What of those that ended by themselves each said last, and how often.

@@ -14,8 +14,8 @@ import time
 
 sys.dont_write_bytecode = True
 sys.path[:0] = [os.path.dirname(os.path.dirname(os.path.abspath(__file__))), os.path.dirname(os.path.abspath(__file__))]
-from journal_story import PQD, STORY, Broker
-from members import free_ports
+from journal_story import PQD, STORY, Broker, resend
+from ports import free_ports
 
 TOP = os.path.dirname(os.path.dirname(os.path.dirname(os.path.abspath(__file__))))
 QUIET = {"stdout": subprocess.DEVNULL, "stderr": subprocess.DEVNULL}
@@ -72,19 +72,20 @@ def tunnel(folder, ports, clients, **files):
 
 
 def served(journal):
-    """The story, in two servers of which the first is killed. What is wrong."""
-    until = time.monotonic() + 30
-    at = 0
+    """The story, by a server that is killed at its end, and its last request once more at another one. What is wrong."""
+    until, at = time.monotonic() + 60, 0
+    # (no member answers yet, perhaps)
     while at == 0 and time.monotonic() < until:
         broker = Broker(journal)
-        at = min(broker.play(0), len(STORY) // 2)
+        at = broker.play(0)
         broker.process.kill()
         broker.end()
+    if at < len(STORY):
+        return f"{at} requests were answered"
     broker = Broker(journal)
-    reply = broker.ask({"op": "list"})
+    resend(broker, len(STORY) - 1)
     status, said = broker.end()
-    wanted = {"queues": [{"kind": "log", "queue": "a"}, {"kind": "durable", "queue": "b"}]}
-    return "" if (reply, status) == (wanted, 0) else f"{reply}, status {status}: {said}"
+    return "" if status == 0 else f"status {status}: {said}"
 
 
 def refused(journal):
