@@ -53,11 +53,11 @@ THERE = "Exists"
 class Broker:
     """A `pqd pipe` with a journal, which answers one line after another. Its files are full at `most` bytes."""
 
-    def __init__(self, file, *options, most=resource.RLIM_INFINITY, **environment):
+    def __init__(self, file, *options, most=resource.RLIM_INFINITY, records=16, **environment):
         def prepare():
             signal.signal(signal.SIGXFSZ, signal.SIG_IGN)
             resource.setrlimit(resource.RLIMIT_FSIZE, (most, most))
-        words = [PQD, "pipe", "--clients", "2", "--records", "16", "--journal", file, *options]
+        words = [PQD, "pipe", "--clients", "2", "--records", str(records), "--journal", file, *options]
         self.process = subprocess.Popen(
             words, stdin=subprocess.PIPE, stdout=subprocess.PIPE, stderr=subprocess.PIPE,
             env={**os.environ, **environment}, preexec_fn=prepare, restore_signals=False,

@@ -62,10 +62,11 @@ bad_option "the argument '--renew' cannot be used multiple times" 'pqd pipe [OPT
 bad_option "unexpected value 'yes' for '--renew' found; no more were expected" 'pqd serve --renew' serve --renew=yes
 bad_option "unexpected argument '--port' found" 'pqd pipe [OPTIONS]' pipe --port 0
 bad_option "unexpected argument '--workers' found" 'pqd pipe [OPTIONS]' pipe --workers 1
+bad_option "unexpected argument '--announce' found" 'pqd pipe [OPTIONS]' pipe --announce host:1
 bad_option "unexpected argument '--clint' found"$'\n\n  tip: '"a similar argument exists: '--clients'" \
     'pqd pipe --clients <T>' pipe --clint 4
 for option in 'clients <T>' 'records <K>' 'image <FILE>' 'journal <FILE>' 'sync <WHEN>' 'listen <ADDRESS>' 'port <P>' \
-    'workers <N>' 'connections <C>' 'idle <SECONDS>' 'secret <FILE>' 'patience <S>'; do
+    'workers <N>' 'connections <C>' 'idle <SECONDS>' 'secret <FILE>' 'patience <S>' 'announce <HOST:PORT>'; do
     bad_option "a value is required for '--$option' but none was supplied" '' serve "--${option%% *}"
     bad_option "the argument '--$option' cannot be used multiple times" 'pqd serve [OPTIONS]' \
         serve "--${option%% *}" 1 "--${option%% *}" 1
@@ -104,10 +105,12 @@ for when in second never; do
     bad_option "the option '--sync' takes always alone for a journal in etcd" 'pqd <COMMAND>' \
         serve --journal "$log" --sync "$when"
 done
-for word in --standby --take-over --patience=1; do
+for word in --standby --take-over --patience=1 --announce=host:1; do
     for command in pipe 'serve --journal tests'; do
+        # (a pipe is found nowhere)
+        [ "$command $word" != 'pipe --announce=host:1' ] || continue
         # shellcheck disable=SC2086
-        bad_option "the options '--standby', '--take-over' and '--patience' go with '--journal etcd://..'" \
+        bad_option "the options '--standby', '--take-over', '--patience' and '--announce' go with '--journal etcd://..'" \
             'pqd <COMMAND>' $command "$word"
     done
 done

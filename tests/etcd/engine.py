@@ -12,6 +12,9 @@ import socket
 import sys
 import threading
 import time
+import typing
+
+from ports import Port
 
 ERROR = b'{"error":"etcdserver: request timed out","message":"etcdserver: request timed out","code":14}'
 
@@ -21,6 +24,19 @@ class Engine:
 
     def __init__(self):
         self.lock, self.values, self.revision = threading.Lock(), {}, 1
+        self.held = []
+
+    def hold(self, path, body):
+        """A request is on its way."""
+        with self.lock:
+            self.held.append((path, body))
+
+    def release(self):
+        """All that is on its way arrives."""
+        with self.lock:
+            held, self.held = self.held, []
+        for path, body in held:
+            self.answer(path, body)
 
     def ranged(self, asked):
         """The answer to a range of one key, without its header."""
@@ -66,48 +82,67 @@ class Engine:
             return header | ({"succeeded": True} if is_met else {}) | {"responses": told}
 
 
-class Faults:
-    """Draws what becomes of each exchange."""
+class Fate(typing.NamedTuple):
+    """What becomes of an exchange."""
+    kind: str = "answered"
+    # Behind which byte of its answer it is cut or rests, counted anew behind the last one.
+    at: int = 0
+    # How many bytes a chunk of its answer has. Where that is 0 the answer has a length.
+    chunk: int = 0
+    # For how many seconds it rests, where it is late or slow.
+    rest: float = 0.0
+    # The answer, where it is odd.
+    text: bytes = b""
+
+
+KINDS = ("before", "behind", "cut", "status", "twice", "late", "slow")
+# Nobody is answered who waits: the request never came, or it was done, or it is on its way.
+STILL = ("unheard", "unanswered", "held")
+
+
+class Fates:
+    """What becomes of each exchange."""
+
+    def __init__(self):
+        # Whether one was kept still, and how long an answer's text was at most.
+        self.lock, self.reached, self.longest = threading.Lock(), threading.Event(), 0
+
+
+class Drawn(Fates):
+    """It is drawn: SHARE of a hundred go wrong."""
 
     def __init__(self, seed, share):
-        self.random, self.share, self.lock = random.Random(seed), share, threading.Lock()
-        self.counts = {}
+        super().__init__()
+        self.random, self.share, self.counts = random.Random(seed), share, {}
 
-    def draw(self):
+    def fate(self):
         with self.lock:
-            kind = "answered"
-            if self.random.random() * 100 < self.share:
-                kind = self.random.choice(("before", "behind", "cut", "status", "twice", "late", "slow"))
+            draws = self.random
+            kind = draws.choice(KINDS) if draws.random() * 100 < self.share else "answered"
             self.counts[kind] = self.counts.get(kind, 0) + 1
-            return kind, random.Random(self.random.getrandbits(64))
+            chunk = draws.choice((0, draws.randrange(1, 65), 65_536))
+            rest = draws.random() * (3 if kind == "late" else 0.05)
+            return Fate(kind, draws.getrandbits(32), chunk, rest)
 
 
-def framed(status, body, draws):
+def framed(status, body, chunk):
     """An answer's bytes: as etcd frames them, or otherwise, as HTTP allows."""
     head = b"HTTP/1.1 " + status + b"\r\nContent-Type: application/json\r\n"
-    if draws.random() < 0.5:
+    if not chunk:
         return head + b"Content-Length: %d\r\n\r\n" % len(body) + body
-    text, rest = head + b"Trailer: Grpc-Trailer-Content-Type\r\nTransfer-Encoding: chunked\r\n\r\n", body
-    while rest:
-        size = draws.randrange(1, 65 if draws.random() < 0.3 and len(body) < 2000 else 65_536)
-        piece, rest = rest[:size], rest[size:]
+    text = head + b"Trailer: Grpc-Trailer-Content-Type\r\nTransfer-Encoding: chunked\r\n\r\n"
+    for at in range(0, len(body), chunk):
+        piece = body[at:at + chunk]
         text += b"%x\r\n" % len(piece) + piece + b"\r\n"
     return text + b"0\r\nGrpc-Trailer-Content-Type: application/grpc\r\n\r\n"
 
 
-class Server:
-    """A member: a port where the engine is asked."""
+class Server(Port):
+    """A member: a port where the engine is asked. `fates` says what becomes of each exchange."""
 
-    def __init__(self, engine, faults, port=0):
-        self.engine, self.faults = engine, faults
-        self.listener = socket.create_server(("127.0.0.1", port))
-        self.port = self.listener.getsockname()[1]
-        threading.Thread(target=self.serve, daemon=True).start()
-
-    def serve(self):
-        while True:
-            connection, _ = self.listener.accept()
-            threading.Thread(target=self.talk, args=(connection,), daemon=True).start()
+    def __init__(self, engine, fates, port=0):
+        self.engine, self.fates = engine, fates
+        super().__init__(port)
 
     def talk(self, connection):
         try:
@@ -130,39 +165,60 @@ class Server:
         body = lines.read(length)
         if len(body) < length:
             return False
-        kind, draws = self.faults.draw()
-        return self.fate(kind, draws, connection, line[1].decode(), body)
+        fate, path = self.fates.fate(), line[1].decode()
+        if fate.kind in STILL:
+            self.keep_still(fate, path, body)
+            # Until nobody waits for it any more.
+            lines.read(1)
+            return False
+        return self.answers(fate, connection, path, body)
 
-    def fate(self, kind, draws, connection, path, body):
-        if kind == "before":
-            return False
-        if kind == "status":
-            connection.sendall(framed(b"503 Service Unavailable", ERROR, draws))
-            return True
-        if kind == "late":
-            # Nobody waits for it any more when it is done; and it may have been sent again meanwhile.
-            threading.Timer(draws.random() * 3, self.engine.answer, (path, body)).start()
-            return False
-        answer = json.dumps(self.engine.answer(path, body), separators=(",", ":")).encode()
-        if kind == "twice":
+    def keep_still(self, fate, path, body):
+        """The request is done or not, and says nothing of that."""
+        if fate.kind == "unanswered":
             self.engine.answer(path, body)
-        if kind == "behind":
+        if fate.kind == "held":
+            self.engine.hold(path, body)
+        self.fates.reached.set()
+
+    def answers(self, fate, connection, path, body):
+        """The request is answered, or not, by its fate. Whether the connection goes on."""
+        if fate.kind == "before":
             return False
-        text = framed(b"200 OK", answer, draws)
-        if kind == "cut":
-            connection.sendall(text[:draws.randrange(len(text))])
+        if fate.kind == "late":
+            # Nobody waits for it any more when it is done; and it may have been sent again meanwhile.
+            threading.Timer(fate.rest, self.engine.answer, (path, body)).start()
             return False
-        if kind == "slow":
-            at = draws.randrange(len(text))
+        if fate.kind == "status":
+            connection.sendall(framed(b"503 Service Unavailable", ERROR, fate.chunk))
+            return True
+        answer = json.dumps(self.engine.answer(path, body), separators=(",", ":")).encode()
+        if fate.kind == "twice":
+            self.engine.answer(path, body)
+        if fate.kind == "behind":
+            return False
+        if fate.kind == "odd":
+            connection.sendall(fate.text)
+            return True
+        return self.tells(fate, connection, framed(b"200 OK", answer, fate.chunk))
+
+    def tells(self, fate, connection, text):
+        """The answer is sent, or a part of it. Whether the connection goes on."""
+        self.fates.longest = max(self.fates.longest, len(text))
+        at = fate.at % len(text)
+        if fate.kind == "cut":
             connection.sendall(text[:at])
-            time.sleep(draws.random() * 0.05)
+            return False
+        if fate.kind == "slow":
+            connection.sendall(text[:at])
+            time.sleep(fate.rest)
             text = text[at:]
         connection.sendall(text)
         return True
 
 
 def main(port, seed="1", share="0"):
-    Server(Engine(), Faults(int(seed), float(share)), int(port))
+    Server(Engine(), Drawn(int(seed), float(share)), int(port))
     threading.Event().wait()
 
 

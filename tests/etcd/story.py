@@ -1,18 +1,16 @@
 #!/usr/bin/env python3
-"""Servers over one log, of which each is taken over by the next one while clients put and take, and what they were told.
+"""Servers over one log, which take it over from each other while clients put and take, and what these were told.
 
   python3 story.py PQD PQX plain|etcd [SECONDS [SEED]]
 
 `plain` has its engine from engine.py, whose exchanges go wrong by drawn faults. `etcd` has three members of etcd, which
-are killed and stopped beside the servers. A server is killed (`kill -9`), or paused (SIGSTOP), taken over and woken up:
-then it may answer nothing. Each client sends a number until it is answered, at whichever address. At the end all that
-is left is taken, each value that was acknowledged was taken once, and `pqx check` explains the recording.
+are killed, stopped and parted, and lose their folders, beside the servers. One server serves, and two stand by. It is
+killed (`kill -9`), also while it stops, or paused (SIGSTOP), taken over and woken up: then it may answer nothing. Each
+client sends a number until it is answered, at whichever address. At the end all that is left is taken, each value that
+was acknowledged was taken once, and `pqx check` explains the recording.
 """
-import json
 import os
 import random
-import signal
-import socket
 import subprocess
 import sys
 import tempfile
@@ -24,100 +22,15 @@ sys.path[:0] = [f"{TOP}/clients/python", f"{TOP}/examples", os.path.dirname(os.p
 sys.dont_write_bytecode = True
 import engine
 import members
+import servers
 from recorder import Recorder
 from wistaku import Broker, Refused
 
 CLIENTS = 8
 # For how many seconds a client sends a call again. None is to be left in doubt.
 PATIENCE = 600
-
-
-def free_port():
-    with socket.create_server(("127.0.0.1", 0)) as it:
-        return it.getsockname()[1]
-
-
-class Servers:
-    """Servers over the log: one that has it, and a port for the next one."""
-
-    def __init__(self, pqd, journal, folder):
-        self.pqd, self.journal, self.folder = pqd, journal, folder
-        self.ports = [free_port(), free_port()]
-        self.running = None
-        self.at = 1
-        self.starts = 0
-
-    def addresses(self):
-        return [f"127.0.0.1:{port}" for port in self.ports]
-
-    def start(self):
-        """The next server takes the log at once. It answers whether it did."""
-        self.at = 1 - self.at
-        self.starts += 1
-        words = [self.pqd, "serve", "--port", str(self.ports[self.at]), "--journal", self.journal, "--take-over",
-                 "--records", "64", "--clients", str(CLIENTS + 1), "--workers", "16", "--renew"]
-        with open(f"{self.folder}/said{self.starts}", "wb") as said:
-            server = subprocess.Popen(words, stdout=subprocess.PIPE, stderr=said)
-        if server.stdout.readline().startswith(b"listening"):
-            self.running = server
-            return True
-        server.wait()
-        return False
-
-    def take_over(self):
-        while not self.start():
-            time.sleep(0.1)
-
-    def kill(self):
-        self.running.kill()
-        self.running.wait()
-        self.take_over()
-
-    def pause(self, counts):
-        """The server is paused, another one takes the log, and the first one wakes up: it may answer nothing."""
-        paused, port = self.running, self.ports[self.at]
-        os.kill(paused.pid, signal.SIGSTOP)
-        while not is_stopped(paused.pid):
-            time.sleep(0.001)
-        late = [asked(port, request) for request in QUESTIONS]
-        self.take_over()
-        os.kill(paused.pid, signal.SIGCONT)
-        for connection in late:
-            answer = heard(connection)
-            counts["told late"] += answer != b""
-        counts["late questions"] += len(late)
-        counts["pauses"] += 1
-        paused.kill()
-        paused.wait()
-
-
-def is_stopped(process):
-    """Whether no thread of a process runs any more, which may be some time behind the signal."""
-    states = []
-    for task in os.listdir(f"/proc/{process}/task"):
-        with open(f"/proc/{process}/task/{task}/stat", encoding="utf-8") as it:
-            states.append(it.read().rpartition(")")[2].split()[0])
-    return set(states) == {"T"}
-
-
-# What changes nothing, and yet may not be answered by who has the log no more.
-QUESTIONS = ({"op": "told", "client": CLIENTS, "queue": "jobs"}, {"op": "list"}, {"op": "nonsense"})
-
-
-def asked(port, request):
-    """A connection on which this was asked."""
-    connection = socket.create_connection(("127.0.0.1", port), timeout=10)
-    connection.sendall(json.dumps(request).encode() + b"\n")
-    return connection
-
-
-def heard(connection):
-    """What came on a connection, to its end."""
-    try:
-        with connection:
-            return connection.recv(1024)
-    except OSError:
-        return b""
+# After how many seconds it says each time how far it is.
+SAYS_EACH = 300
 
 
 class Load:
@@ -190,54 +103,83 @@ def explained(pqx, load, folder):
     return said.returncode, said.stdout.splitlines()[:1] or said.stderr.splitlines()[-1:]
 
 
+class Harms:
+    """What happens, in a drawn order in which each kind comes before any comes again."""
+
+    def __init__(self, kinds, harm, draws, until):
+        self.kinds, self.harm, self.draws, self.until = kinds, harm, draws, until
+        self.failures = []
+        self.thread = threading.Thread(target=self.work)
+        self.thread.start()
+
+    def work(self):
+        left = []
+        try:
+            while not self.until():
+                time.sleep(0.1 + self.draws.random())
+                left = left or self.draws.sample(self.kinds, len(self.kinds))
+                self.harm(left.pop(), self.draws)
+        except Exception as error:
+            self.failures.append(f"{type(error).__name__}: {error}")
+
+
+def harmed(all_servers, place, load, seconds, seed):
+    """For so long servers and members are harmed. What failed of that."""
+    begun, said = time.monotonic(), 0
+
+    def is_over():
+        return time.monotonic() - begun >= seconds or bool(load.failures)
+    kinds = ((servers.HARMS, all_servers.harm), (place.harms, place.harm))
+    harms = [Harms(list(names), harm, random.Random(seed + at), is_over)
+             for at, (names, harm) in enumerate(kinds) if names]
+    while not is_over():
+        time.sleep(0.2)
+        if time.monotonic() - begun >= (said + 1) * SAYS_EACH:
+            said += 1
+            print(f"{said * SAYS_EACH} s: {len(load.put)} puts; {all_servers.said()}; {place.said()}", flush=True)
+    for it in harms:
+        it.thread.join()
+    return [failure for it in harms for failure in it.failures]
+
+
 def played(pqd, pqx, place, seconds, seed, folder):
-    draws = random.Random(seed)
-    servers = Servers(pqd, place.journal, folder)
-    counts = {"kills": 0, "pauses": 0, "late questions": 0, "told late": 0}
-    servers.take_over()
-    with Broker(servers.addresses(), client=0) as broker:
+    all_servers = servers.Servers(pqd, place.journal, folder, CLIENTS + 1)
+    with Broker(all_servers.addresses(), client=0, patience=PATIENCE) as broker:
         broker.log("jobs", create=True)
     # While nobody calls, nothing that an owner of the past appends is refused, so a question alone can find out.
-    servers.pause(counts)
-    load = Load(servers, seed)
+    all_servers.harm("paused", random.Random(seed))
+    load = Load(all_servers, seed)
     load.begin()
-    until = time.monotonic() + seconds
-    while time.monotonic() < until and not load.failures:
-        time.sleep(0.2 + draws.random())
-        place.harm(draws)
-        if draws.random() < 0.7:
-            servers.kill()
-            counts["kills"] += 1
-        else:
-            servers.pause(counts)
-    load.end()
+    failures = harmed(all_servers, place, load, seconds, seed)
     place.heal()
+    load.end()
     load.drain()
-    servers.pause(counts)
-    servers.running.kill()
-    servers.running.wait()
+    all_servers.harm("paused", random.Random(seed))
+    all_servers.end()
     found = differences(load)
     status, verdict = explained(pqx, load, folder)
-    bad = any(found.values()) or status or counts["told late"] or load.failures
+    failures += load.failures + all_servers.unfair
     print(f"{len(load.put)} puts acknowledged, {len(load.taken)} values taken;",
-          ", ".join(f"{name} {count}" for name, count in (found | counts).items()))
-    print(place.said())
+          ", ".join(f"{name} {count}" for name, count in found.items()))
+    print(all_servers.said(), place.said(), sep="\n")
     print("pqx check:", *verdict)
-    print(*load.failures, sep="\n", end="\n" if load.failures else "")
-    return 1 if bad else 0
+    print(*failures, sep="\n", end="\n" if failures else "")
+    return 1 if any(found.values()) or status or all_servers.answered_late or failures else 0
 
 
 class Plain:
     """The plain engine, at three ports."""
 
+    harms = ()
+
     def __init__(self, seed):
-        self.faults = engine.Faults(seed, 8)
+        self.faults = engine.Drawn(seed, 8)
         log = engine.Engine()
         self.members = [engine.Server(log, self.faults) for _ in range(3)]
         ports = ",".join(f"127.0.0.1:{it.port}" for it in self.members)
         self.journal = f"etcd://{ports}/test/story"
 
-    def harm(self, draws):
+    def harm(self, kind, draws):
         pass
 
     def heal(self):

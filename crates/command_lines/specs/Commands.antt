@@ -40,7 +40,8 @@ pipe_app = with_journal_rules (with_queue_rules (new_app (codes "pipe")))
 
 -- a command with the options of a server
 abbrev pub with_listening_rules : App → App
-with_listening_rules a = with_rule (with_rule (with_rule (with_rule (with_rule (with_rule a
+with_listening_rules a = with_rule (with_rule (with_rule (with_rule (with_rule (with_rule (with_rule a
+    (option_rule (codes "announce")))
     (option_rule (codes "listen")))
     (option_rule (codes "port")))
     (option_rule (codes "workers")))

@@ -157,6 +157,12 @@ const PATIENCE: Described<'static> = Described {
     help: "The seconds for which etcd is asked again that does not answer [default: 60]",
 };
 
+const ANNOUNCE: Described<'static> = Described {
+    name: "announce",
+    form: Form::Option("HOST:PORT"),
+    help: "Where others find the server of the journal in etcd [default: where it listens]",
+};
+
 const SYNC: Described<'static> = Described {
     name: "sync",
     form: Form::Option("WHEN"),
@@ -205,6 +211,7 @@ const SERVE: DescribedCommand<'static> = DescribedCommand {
         STANDBY,
         TAKE_OVER,
         PATIENCE,
+        ANNOUNCE,
         Described {
             name: "listen",
             form: Form::Option("ADDRESS"),

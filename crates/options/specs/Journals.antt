@@ -1,8 +1,9 @@
 -- Which journal is asked for.
-use Rattle.std.specs.Prelude.{◌≡◌, ◌⊎◌, ◌++◌, Option, Some, None, ℕ, ⊤, codes}
+use Rattle.std.specs.Prelude.{◌≡◌, ◌⊎◌, ◌++◌, List, Option, Some, None, ℕ, ⊤, codes}
 use Rattle.clap.specs.Words.{Text}
 use Rattle.options.specs.declared.limits.TheConstants.{DEFAULT_PATIENCE, MAX_PATIENCE}
-use Rattle.options.specs.Numbers.{Fits, number_of}
+use Rattle.std.specs.Borrow.{Bor}
+use Rattle.options.specs.Numbers.{Fits, given_text, number_of}
 use Rattle.options.specs.declared.asked.Journaling.{Journaling}
 use Rattle.options.specs.declared.asked.Journaling.TheVariants.{InFile, InLog}
 use Rattle.options.specs.declared.asked.Syncing.{Syncing}
@@ -45,6 +46,7 @@ module _ (given : Text → Option Text) where
     pub standby : ¬ (IsSet (codes "standby"))
     pub take_over : ¬ (IsSet (codes "take-over"))
     pub patience : given (codes "patience") ≡ None
+    pub announce : given (codes "announce") ≡ None
 
   -- when a log is taken from another server
   abbrev pub TakesBy : Taking → Type 0
@@ -55,6 +57,10 @@ module _ (given : Text → Option Text) where
   -- how long it is patient
   abbrev pub HasPatience : ℕ → Type 0
   HasPatience patience = patience ≡ number_of DEFAULT_PATIENCE (given (codes "patience"))
+
+  -- where others are told to find the server, if they are
+  abbrev pub IsAnnouncedAs : Option (Bor (List ℕ)) → Type 0
+  IsAnnouncedAs announce = given_text announce ≡ given (codes "announce")
 
   -- the options of a log fit
   pub record LogFits : Type 0 where
@@ -75,4 +81,4 @@ module _ (given : Text → Option Text) where
   JournalsBy (Some (InFile j)) = (given (codes "journal") ≡ Some j.file.now) × ¬ (IsLogs j.file.now)
       × SyncsBy (given (codes "sync")) j.syncing × HasNoLogWords
   JournalsBy (Some (InLog j)) = (given (codes "journal") ≡ Some (codes "etcd://" ++ j.address.now))
-      × LogFits × TakesBy j.taking × HasPatience j.patience
+      × LogFits × TakesBy j.taking × HasPatience j.patience × IsAnnouncedAs j.announce

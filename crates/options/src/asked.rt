@@ -51,6 +51,8 @@ pub struct LogJournal<'a> {
     pub taking: Taking,
     /// For how many seconds a request is sent again that is not answered, from 1 to `MAX_PATIENCE`.
     pub patience: u32,
+    /// Where others find the server, if that is not where it listens.
+    pub announce: Option<&'a str>,
     ghost some_patience: { 1 ≤ patience },
     ghost little_patience: { patience ≤ MAX_PATIENCE },
 }

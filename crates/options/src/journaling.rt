@@ -2,8 +2,8 @@
 
 ghost use Rattle.std.specs.Prelude.{◌≡◌, ◌↔◌, ◌++◌, IfOk, IsTrue, MatchOption, OnErr, OnOk, Some, codes};
 ghost use Rattle.clap.specs.Words.{first_value, found_of};
-ghost use Rattle.options.specs.Journals.{HasNoLogWords, HasPatience, IsLogs, IsSet, IsSyncing, JournalFits, JournalsBy};
-ghost use Rattle.options.specs.Journals.{KeepsAlways, LogFits, NamesNoLog, SyncsBy, TakesBy};
+ghost use Rattle.options.specs.Journals.{HasNoLogWords, HasPatience, IsAnnouncedAs, IsLogs, IsSet, IsSyncing, JournalFits};
+ghost use Rattle.options.specs.Journals.{JournalsBy, KeepsAlways, LogFits, NamesNoLog, SyncsBy, TakesBy};
 ghost use Rattle.options.specs.Numbers.{given_text};
 
 use crate::asked::{FileJournal, Journaling, LogJournal, Syncing, Taking};
@@ -78,6 +78,9 @@ fn has_no_log_words(given: &ArgMatches<'_>) -> bool
     if is_set(given, "take-over") {
         return false;
     }
+    if given.get_str("announce").is_some() {
+        return false;
+    }
     given.get_str("patience").is_none()
 }
 
@@ -92,11 +95,12 @@ fn keeps_always(when: Option<&str>) -> bool
 }
 
 /// The journal in the log of this address.
-fn in_log<'a>(given: &ArgMatches<'_>, address: &'a str) -> Result<LogJournal<'a>, Misfit>
+fn in_log<'a>(given: &ArgMatches<'a>, address: &'a str) -> Result<LogJournal<'a>, Misfit>
     ensures address { IfOk result (λ log. log.address.now ≡ address.now) }
     ensures fits { OnOk result (LogFits (first_value (found_of given.now))) }
     ensures taking { IfOk result (λ log. TakesBy (first_value (found_of given.now)) log.taking) }
     ensures patience { IfOk result (λ log. HasPatience (first_value (found_of given.now)) log.patience) }
+    ensures announced { IfOk result (λ log. IsAnnouncedAs (first_value (found_of given.now)) log.announce) }
     ensures misfit { OnErr result (¬ (LogFits (first_value (found_of given.now)))) }
 {
     if !keeps_always(given.get_str("sync")) {
@@ -107,6 +111,7 @@ fn in_log<'a>(given: &ArgMatches<'_>, address: &'a str) -> Result<LogJournal<'a>
         address,
         taking: taking(given),
         patience,
+        announce: given.get_str("announce"),
     })
 }
 

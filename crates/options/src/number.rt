@@ -84,7 +84,7 @@ impl fmt::Display for Misfit {
                 "the option '--sync' takes always alone for a journal in etcd",
             ),
             Misfit::NoLog => f.write_str(
-                "the options '--standby', '--take-over' and '--patience' go with '--journal etcd://..'",
+                "the options '--standby', '--take-over', '--patience' and '--announce' go with '--journal etcd://..'",
             ),
         }
     }

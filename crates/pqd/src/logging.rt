@@ -10,7 +10,7 @@ use crate::keeping::{Kept, broker_on, serve_connections, serve_input};
 use crate::standby::wait_for;
 use crate::{Fault, broker_for, fill_places, service_of};
 use etcd_log::{EtcdStore, Exchange, ask_tail};
-use etcd_net::{HttpExchange, log_at, members};
+use etcd_net::{HttpExchange, is_place, log_at, members};
 use etcd_text::tail_in;
 use journal_store::found_in;
 use lasting::Policy;
@@ -148,22 +148,41 @@ fn pipe_logged<T: Threads + Wait + Clock + Sync>(
     serve_input(threads, rt, kept)
 }
 
+/// A name for an owner who listens at this address, and is found where that is announced, or there.
+fn server_name(
+    rt: &HostRuntime,
+    journal: LogJournal<'_>,
+    address: SocketAddr,
+) -> Result<String, Fault> {
+    if let Some(place) = journal.announce {
+        return owner_name(rt, place);
+    }
+    let Ok(place) = address.to_string(rt.alloc()) else {
+        return Err(Fault::Refused(Refusal::NoMemory));
+    };
+    if address.ip().is_unspecified() {
+        let said = eprintln!(rt; "pqd: nobody is found at {place}: --announce says where others find this server");
+        if said.is_err() {
+            return Err(Fault::Refused(Refusal::WriteFailed));
+        }
+    }
+    owner_name(rt, &place)
+}
+
 /// Serves connections as they come to this address. The image that it leaves.
 fn serve_logged<T: Threads + Wait + Net + Log + Clock + Sync>(
     threads: &T,
     rt: &HostRuntime,
     asked: &Options<'_>,
     log: &Wanted<'_>,
-    patience: u64,
+    journal: LogJournal<'_>,
     at: Listening<'_>,
 ) -> Result<Vec<u8>, Fault> {
     // Whoever stands by finds the port taken before the log is, and so does not take it meanwhile.
     let bound = bound(rt, at)?;
-    let Ok(place) = bound.address.to_string(rt.alloc()) else {
-        return Err(Fault::Refused(Refusal::NoMemory));
-    };
-    let owner = owner_name(rt, &place)?;
-    let kept = kept_in(rt, asked, log.exchange(rt, patience)?, &owner)?;
+    let owner = server_name(rt, journal, bound.address)?;
+    let exchange = log.exchange(rt, u64::from(journal.patience))?;
+    let kept = kept_in(rt, asked, exchange, &owner)?;
     bound.tell(rt)?;
     match serve_connections(threads, rt, service_of(at, asked), kept, &bound.entrance()) {
         Ok(image) => Ok(image),
@@ -179,12 +198,14 @@ pub(crate) fn serve<T: Threads + Wait + Net + Log + Clock + Sync>(
     journal: LogJournal<'_>,
 ) -> Result<Vec<u8>, Fault> {
     let _places = fill_places(rt);
+    if !journal.announce.is_none_or(is_place) {
+        return Err(Fault::Place);
+    }
     let log = log_of(rt, journal.address)?;
-    let patience = u64::from(journal.patience);
-    let mut exchange = log.exchange(rt, patience)?;
+    let mut exchange = log.exchange(rt, u64::from(journal.patience))?;
     wait_for(rt, &mut exchange, journal.taking)?;
     match asked.mode {
         Mode::Pipe => pipe_logged(threads, rt, asked, exchange, &owner_name(rt, "pipe")?),
-        Mode::Serve(at) => serve_logged(threads, rt, asked, &log, patience, at),
+        Mode::Serve(at) => serve_logged(threads, rt, asked, &log, journal, at),
     }
 }

@@ -61,6 +61,9 @@ enum Fault {
     /// What is given is no log's address.
     #[error("the option '--journal' takes a file, or etcd://HOST:PORT,../NAME")]
     Address,
+    /// What is announced is no place of a server.
+    #[error("the option '--announce' takes HOST:PORT")]
+    Place,
 }
 
 impl From<Refusal> for Fault {

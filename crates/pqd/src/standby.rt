@@ -2,11 +2,10 @@
 
 use crate::Fault;
 use etcd_log::{Exchange, ask_tail};
-use etcd_net::is_reached;
+use etcd_net::{is_place, is_reached};
 use etcd_text::tail_in;
 use journal_store::Fault as Unused;
 use options::Taking;
-use std::net::SocketAddr;
 use std::str;
 use std::thread::sleep;
 use std::time::Duration;
@@ -18,27 +17,36 @@ const LOOK_MILLIS: u64 = 500;
 /// How many looks in a row have to be in vain before that one is taken to be gone.
 const VAIN_LOOKS: u32 = 3;
 
-/// Where an owner of this name is to be found, if anywhere: its name is its address, a slash and what was drawn.
-fn place_of(owner: &[u8]) -> Option<SocketAddr> {
+/// Where an owner of this name is to be found, if anywhere: its name is that place, a slash and what was drawn.
+fn place_of(owner: &[u8]) -> Option<&str> {
     let text = str::from_utf8(owner).ok()?;
     let (place, _drawn) = text.split_once('/')?;
-    place.parse::<SocketAddr>().ok()
+    if is_place(place) { Some(place) } else { None }
 }
 
 /// Where the owner of the log is to be found, if it has one who is.
-fn owner_of<X: Exchange>(exchange: &mut X) -> Result<Option<SocketAddr>, Fault> {
+fn owner_of<X: Exchange>(
+    rt: &HostRuntime,
+    exchange: &mut X,
+) -> Result<Option<String>, Fault> {
     let Some(text) = ask_tail(exchange)? else {
         return Ok(None);
     };
-    match tail_in(&text) {
-        Some(tail) => Ok(place_of(tail.owner)),
-        None => Err(Fault::BadLog),
+    let Some(tail) = tail_in(&text) else {
+        return Err(Fault::BadLog);
+    };
+    let Some(place) = place_of(tail.owner) else {
+        return Ok(None);
+    };
+    match place.to_string(rt.alloc()) {
+        Ok(place) => Ok(Some(place)),
+        Err(_) => Err(Fault::Refused(Refusal::NoMemory)),
     }
 }
 
 /// Says which server has the log.
-fn tell_owner(rt: &HostRuntime, address: SocketAddr) -> Result<(), Fault> {
-    match eprintln!(rt; "pqd: {address} serves") {
+fn tell_owner(rt: &HostRuntime, place: &str) -> Result<(), Fault> {
+    match eprintln!(rt; "pqd: {place} serves") {
         Ok(()) => Ok(()),
         Err(_) => Err(Fault::Refused(Refusal::WriteFailed)),
     }
@@ -46,29 +54,30 @@ fn tell_owner(rt: &HostRuntime, address: SocketAddr) -> Result<(), Fault> {
 
 /// Refuses where the server that has the log takes connections (InUse).
 fn find_free<X: Exchange>(rt: &HostRuntime, exchange: &mut X) -> Result<(), Fault> {
-    match owner_of(exchange)? {
-        Some(address) if is_reached(rt, address) => {
-            tell_owner(rt, address)?;
-            Err(Fault::Journal(Unused::InUse))
-        }
-        _ => Ok(()),
+    let Some(place) = owner_of(rt, exchange)? else {
+        return Ok(());
+    };
+    if !is_reached(rt, rt.alloc(), &place) {
+        return Ok(());
     }
+    tell_owner(rt, &place)?;
+    Err(Fault::Journal(Unused::InUse))
 }
 
 /// Waits until the server that has the log takes no connections, and says whose it is whenever that changes.
 fn stand_by<X: Exchange>(rt: &HostRuntime, exchange: &mut X) -> Result<(), Fault> {
-    let mut told = None;
+    let mut told = String::new(rt.alloc());
     let mut vain: u32 = 0;
     for _ in 0..u64::MAX {
-        let Some(address) = owner_of(exchange)? else {
+        let Some(place) = owner_of(rt, exchange)? else {
             return Ok(());
         };
-        if told != Some(address) {
-            tell_owner(rt, address)?;
-            told = Some(address);
+        if told != place {
+            tell_owner(rt, &place)?;
             vain = 0;
         }
-        vain = if is_reached(rt, address) {
+        told = place;
+        vain = if is_reached(rt, rt.alloc(), &told) {
             0
         } else {
             vain.saturating_add(1)
