@@ -39,9 +39,10 @@ abbrev pub pipe_app : App
 pipe_app = with_journal_rules (with_queue_rules (new_app (codes "pipe")))
 
 abbrev pub serve_app : App
-serve_app = with_rule (with_rule (with_rule (with_journal_rules (with_queue_rules (new_app (codes "serve"))))
+serve_app = with_rule (with_rule (with_rule (with_rule (with_journal_rules (with_queue_rules (new_app (codes "serve"))))
     (option_rule (codes "listen")))
     (option_rule (codes "port")))
+    (option_rule (codes "metrics")))
     (option_rule (codes "workers"))
 
 -- `pqd` itself, which wants a command, tells its version, and has no command that is called help

@@ -186,7 +186,7 @@ const PIPE: DescribedCommand<'static> = DescribedCommand {
 };
 
 /// `serve [--clients T] [--records K] [--image FILE] [--journal FILE [--sync WHEN]] [--renew] [--listen ADDRESS] [--port P]
-/// [--workers N]`, and the options of a log
+/// [--metrics PORT] [--workers N]`, and the options of a log
 const SERVE: DescribedCommand<'static> = DescribedCommand {
     name: "serve",
     about: "Answers the requests of connections to a port",
@@ -214,6 +214,11 @@ const SERVE: DescribedCommand<'static> = DescribedCommand {
             name: "port",
             form: Form::Option("P"),
             help: "The port, 0 to 65535, where 0 lets the system choose [default: 7070]",
+        },
+        Described {
+            name: "metrics",
+            form: Form::Option("PORT"),
+            help: "The port of this machine at which numbers are told: /metrics, /stats and a page",
         },
         Described {
             name: "workers",

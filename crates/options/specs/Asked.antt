@@ -1,5 +1,5 @@
 -- What a command of `pqd` asks, by what its options were given.
-use Rattle.std.specs.Prelude.{◌≡◌, ◌⊎◌, ◌↔◌, ◌∷◌, [], IsTrue, List, Option, Some, None, ⊤, codes, option_map, option_and_then}
+use Rattle.std.specs.Prelude.{◌≡◌, ◌⊎◌, ◌↔◌, ◌∷◌, [], ℕ, IsTrue, List, Option, Some, None, ⊤, codes, option_map, option_and_then}
 use Rattle.std.specs.Net.Grammar.{IsIpText}
 use Rattle.std.specs.declared.net.ip_addr.IpAddr.{IpAddr}
 use Rattle.std.specs.declared.net.ip_addr.IpAddr.TheVariants.{V4, V6}
@@ -7,7 +7,7 @@ use Rattle.std.specs.Net.Addr.{ipv4_octets}
 use Rattle.words.specs.declared.limits.TheConstants.{MAX_CLIENTS, MAX_RECORDS}
 use Rattle.clap.specs.Words.{Row, Text, first_of}
 use Rattle.options.specs.declared.limits.TheConstants.{DEFAULT_CLIENTS, DEFAULT_RECORDS, DEFAULT_PORT, DEFAULT_WORKERS, MAX_PORT, MAX_WORKERS}
-use Rattle.options.specs.Numbers.{Fits, given_text, number_of}
+use Rattle.options.specs.Numbers.{Fits, decimal_value, given_text, number_of}
 use Rattle.options.specs.declared.asked.Options.{Options}
 use Rattle.options.specs.declared.asked.Listening.{Listening}
 use Rattle.options.specs.declared.asked.Mode.{Mode}
@@ -41,10 +41,16 @@ abbrev pub IsAddressGiven : Option Text → IpAddr → Type 0
 IsAddressGiven None address = IsLoopback address
 IsAddressGiven (Some text) address = IsIpText text address
 
+-- it is the port that is given, and none where none is
+abbrev pub IsPortGiven : Option Text → Option ℕ → Type 0
+IsPortGiven None port = port ≡ None
+IsPortGiven (Some text) port = port ≡ Some (decimal_value text)
+
 -- a server was given an address, and each number is a whole number in the range of its option
 pub record ListeningFits (given : Text → Option Text) : Type 0 where
   pub address : AddressFits (given (codes "listen"))
   pub port : Fits 0 MAX_PORT (given (codes "port"))
+  pub metrics : Fits 0 MAX_PORT (given (codes "metrics"))
   pub workers : Fits 1 MAX_WORKERS (given (codes "workers"))
 
 -- what any command was given fits: each number, and the syncing
@@ -54,11 +60,12 @@ pub record AllFit (command : Option Text) (given : Text → Option Text) : Type 
   pub journal : JournalFits given
   pub listening : command ≡ Some (codes "serve") → ListeningFits given
 
--- a server listens where its options say, and has as many workers
+-- a server listens where its options say, tells numbers at the port that they say, and has as many workers
 pub record ListensBy (given : Text → Option Text) (listening : Listening) : Type 0 where
   pub fit : ListeningFits given
   pub address : IsAddressGiven (given (codes "listen")) listening.address
   pub port : listening.port ≡ number_of DEFAULT_PORT (given (codes "port"))
+  pub metrics : IsPortGiven (given (codes "metrics")) listening.metrics
   pub workers : listening.workers ≡ number_of DEFAULT_WORKERS (given (codes "workers"))
 
 -- the mode is that of the command, with what its options say

@@ -93,6 +93,8 @@ pub struct Listening {
     pub address: IpAddr,
     /// 0 lets the system choose.
     pub port: u16,
+    /// The port of this machine alone at which numbers are told, if they are to be.
+    pub metrics: Option<u16>,
     /// The threads that serve, from 1 to `MAX_WORKERS`.
     pub workers: u32,
     ghost some_workers: { 1 ≤ workers },

@@ -77,6 +77,14 @@ pub(crate) const PORT: NumberOption = NumberOption {
     default: DEFAULT_PORT,
 };
 
+/// `--metrics PORT`, which has no default.
+pub(crate) const METRICS: NumberOption = NumberOption {
+    name: "metrics",
+    least: 0,
+    most: MAX_PORT,
+    default: 0,
+};
+
 /// `--workers N`
 pub(crate) const WORKERS: NumberOption = NumberOption {
     name: "workers",

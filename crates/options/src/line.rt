@@ -2,15 +2,28 @@
 
 ghost use Rattle.std.specs.Prelude.{◌≡◌, IfOk, OnErr, Some};
 ghost use Rattle.clap.specs.Words.{first_value, found_of, subcommand_rows_of};
-ghost use Rattle.options.specs.Asked.{AllFit, Asks, IsKnown, ListeningFits, ListensBy};
+ghost use Rattle.options.specs.Asked.{AllFit, Asks, IsKnown, IsPortGiven, ListeningFits, ListensBy};
+ghost use Rattle.options.specs.Numbers.{Fits, given_text};
+ghost use Rattle.options.specs.declared.limits.TheConstants.{MAX_PORT};
 ghost use Rattle.options.specs.Asked.{CommandAsks, CommandFits, name_in};
 
 use crate::address::address;
 use crate::asked::{Listening, Mode, Options};
 use crate::journaling::{is_set, journaling};
-use crate::limits::{CLIENTS, PORT, RECORDS, WORKERS};
+use crate::limits::{CLIENTS, METRICS, PORT, RECORDS, WORKERS};
 use crate::number::Misfit;
 use clap::ArgMatches;
+
+/// The port at which numbers are told, if one is given.
+fn metrics(given: Option<&str>) -> Result<Option<u16>, Misfit>
+    ensures asked { IfOk result (IsPortGiven (given_text given.entry)) }
+    ensures misfit { OnErr result (¬ (Fits 0 MAX_PORT (given_text given.entry))) }
+{
+    match given {
+        Some(text) => Ok(Some(METRICS.read(Some(text))? as u16)),
+        None => Ok(None),
+    }
+}
 
 /// Where `serve` listens.
 fn listening(given: &ArgMatches<'_>) -> Result<Listening, Misfit>
@@ -20,6 +33,7 @@ fn listening(given: &ArgMatches<'_>) -> Result<Listening, Misfit>
     Ok(Listening {
         address: address(given.get_str("listen"))?,
         port: PORT.read(given.get_str("port"))? as u16,
+        metrics: metrics(given.get_str("metrics"))?,
         workers: WORKERS.read(given.get_str("workers"))?,
     })
 }

@@ -4,7 +4,7 @@ ghost use Rattle.std.specs.Prelude.{◌≡◌, IfOk};
 ghost use Rattle.opening.specs.Sessions.{IsUncalled};
 ghost use Rattle.pqd.specs.Keeping.{GoesOnFrom, GoesOnFromFiles, policy_for};
 
-use crate::{Fault, broker_for, fill_places, listener_at, service_of};
+use crate::{Fault, broker_for, fill_places, listeners_at, service_of};
 use devices::{CountedReader, CountedWriter};
 use journal_file::Storage;
 use journal_store::{Folder, Found, Store, SystemFolder};
@@ -13,10 +13,10 @@ use log::Log;
 use named::Broker;
 use opening::{reopened, reopened_anew};
 use options::{FileJournal, Listening, Mode, Options, Syncing};
-use server::{Service, net_lasting, pipe_lasting};
+use server::{Listeners, Service, net_lasting, pipe_lasting};
 use serving::Journaling;
 use std::io;
-use std::net::{Net, TcpListener};
+use std::net::Net;
 use std::sync::Wait;
 use std::thread::Threads;
 use std::time::Clock;
@@ -112,7 +112,7 @@ pub(crate) fn serve_input<T: Threads + Wait + Clock + Sync, S: Storage + Drop + 
     Ok(left.image)
 }
 
-/// Serves the connections of a listener, with a journal. The image that it leaves.
+/// Serves the connections of listeners, with a journal. The image that it leaves.
 pub(crate) fn serve_connections<
     T: Threads + Wait + Net + Log + Clock + Sync,
     S: Storage + Drop + Send,
@@ -121,7 +121,7 @@ pub(crate) fn serve_connections<
     rt: &HostRuntime,
     service: Service,
     kept: Kept<S>,
-    listener: &TcpListener,
+    listeners: &Listeners,
 ) -> Result<Vec<u8>, Fault>
     requires { IsUncalled kept.broker }
 {
@@ -131,7 +131,7 @@ pub(crate) fn serve_connections<
         kept.broker,
         service,
         kept.journaling,
-        listener,
+        listeners,
     )?;
     Ok(left.image)
 }
@@ -168,8 +168,8 @@ pub(crate) fn serve<T: Threads + Wait + Net + Log + Clock + Sync>(
         Mode::Pipe => serve_input(threads, rt, kept),
         Mode::Serve(at) => {
             let _places = fill_places(rt);
-            let listener = listener_at(rt, at)?;
-            serve_connections(threads, rt, service_of(at, asked), kept, &listener)
+            let listeners = listeners_at(rt, at)?;
+            serve_connections(threads, rt, service_of(at, asked), kept, &listeners)
         }
     }
 }

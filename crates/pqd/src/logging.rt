@@ -7,7 +7,7 @@ ghost use Rattle.pqd.specs.Keeping.{GoesOnFromText};
 
 use crate::keeping::{Kept, broker_on, serve_connections, serve_input};
 use crate::standby::wait_for;
-use crate::{Fault, bound, broker_for, fill_places, service_of, tell_address};
+use crate::{Fault, bound_listeners, broker_for, fill_places, service_of, tell_listeners};
 use etcd_log::{EtcdStore, Exchange, ask_tail};
 use etcd_net::{HttpExchange, log_at, members};
 use etcd_text::tail_in;
@@ -157,14 +157,14 @@ fn serve_logged<T: Threads + Wait + Net + Log + Clock + Sync>(
     at: Listening,
 ) -> Result<Vec<u8>, Fault> {
     // Whoever stands by finds the port taken before the log is, and so does not take it meanwhile.
-    let (listener, address) = bound(rt, at)?;
+    let (listeners, address) = bound_listeners(rt, at)?;
     let Ok(place) = address.to_string(rt.alloc()) else {
         return Err(Fault::Refused(Refusal::NoMemory));
     };
     let owner = owner_name(rt, &place)?;
     let kept = kept_in(rt, asked, log.exchange(rt, patience)?, &owner)?;
-    tell_address(rt, at, address)?;
-    match serve_connections(threads, rt, service_of(at, asked), kept, &listener) {
+    tell_listeners(rt, at, address, &listeners)?;
+    match serve_connections(threads, rt, service_of(at, asked), kept, &listeners) {
         Ok(image) => Ok(image),
         Err(fault) => Err(log.reason(rt, owner.as_bytes(), fault)),
     }

@@ -17,11 +17,11 @@ use log::Log;
 use named::Broker;
 use opening::{opened, renewed};
 use options::{Journaling, Listening, Mode, Options};
-use server::{Service, net};
+use server::{Listeners, Service, net};
 use serving::{Unserved, pipe};
 use std::fs::File;
 use std::io;
-use std::net::{Net, SocketAddr, TcpListener};
+use std::net::{IpAddr, Ipv4Addr, Net, SocketAddr, TcpListener};
 use std::process::ExitCode;
 use std::sync::Wait;
 use std::thread::Threads;
@@ -126,14 +126,27 @@ fn fill_places(rt: &HostRuntime) -> [io::Result<File>; 3] {
 }
 
 /// A listener of the address, with the one that it has.
-fn bound(rt: &HostRuntime, at: Listening) -> Result<(TcpListener, SocketAddr), Fault> {
-    let Ok(listener) = TcpListener::bind(rt, SocketAddr::from((at.address, at.port))) else {
+fn bound(rt: &HostRuntime, at: SocketAddr) -> Result<(TcpListener, SocketAddr), Fault> {
+    let Ok(listener) = TcpListener::bind(rt, at) else {
         return Err(Fault::Listen);
     };
     match listener.local_addr() {
         Ok(address) => Ok((listener, address)),
         Err(_) => Err(Fault::Listen),
     }
+}
+
+/// Where connections are taken: at the address, which is answered too, and for numbers on this machine alone.
+fn bound_listeners(rt: &HostRuntime, at: Listening) -> Result<(Listeners, SocketAddr), Fault> {
+    let (clients, address) = bound(rt, SocketAddr::from((at.address, at.port)))?;
+    let metrics = match at.metrics {
+        Some(port) => {
+            let here = IpAddr::V4(Ipv4Addr::new(127, 0, 0, 1));
+            Some(bound(rt, SocketAddr::from((here, port)))?.0)
+        }
+        None => None,
+    };
+    Ok((Listeners { clients, metrics }, address))
 }
 
 /// Says where it listens, and who is served there where that is not this machine alone.
@@ -150,11 +163,36 @@ fn tell_address(rt: &HostRuntime, at: Listening, address: SocketAddr) -> Result<
     }
 }
 
-/// A listener of the address, once it has said where it listens.
-fn listener_at(rt: &HostRuntime, at: Listening) -> Result<TcpListener, Fault> {
-    let (listener, address) = bound(rt, at)?;
+/// Says where numbers are told, where they are.
+fn tell_metrics(rt: &HostRuntime, listeners: &Listeners) -> Result<(), Fault> {
+    let Some(metrics) = &listeners.metrics else {
+        return Ok(());
+    };
+    let Ok(address) = metrics.local_addr() else {
+        return Err(Fault::Listen);
+    };
+    match println!(rt; "metrics {address}") {
+        Ok(()) => Ok(()),
+        Err(_) => Err(Fault::Refused(Refusal::WriteFailed)),
+    }
+}
+
+/// Says where it listens, and where numbers are told.
+fn tell_listeners(
+    rt: &HostRuntime,
+    at: Listening,
+    address: SocketAddr,
+    listeners: &Listeners,
+) -> Result<(), Fault> {
     tell_address(rt, at, address)?;
-    Ok(listener)
+    tell_metrics(rt, listeners)
+}
+
+/// Where connections are taken, once it has said where it listens.
+fn listeners_at(rt: &HostRuntime, at: Listening) -> Result<Listeners, Fault> {
+    let (listeners, address) = bound_listeners(rt, at)?;
+    tell_listeners(rt, at, address, &listeners)?;
+    Ok(listeners)
 }
 
 /// How connections are served that are asked for so.
@@ -176,8 +214,8 @@ fn serve_connections<T: Threads + Wait + Net + Log + Clock + Sync>(
     requires { IsUncalled broker }
 {
     let _places = fill_places(rt);
-    let listener = listener_at(rt, at)?;
-    Ok(net(threads, rt.alloc(), broker, service, &listener)?)
+    let listeners = listeners_at(rt, at)?;
+    Ok(net(threads, rt.alloc(), broker, service, &listeners)?)
 }
 
 /// Serves as the options ask, in memory. The image that it leaves.

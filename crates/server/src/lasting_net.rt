@@ -9,7 +9,7 @@ ghost use Rattle.server.specs.Worked.{AreKnown, IsLeftServed, settled_told};
 
 use crate::connections::{InJournal, LastingWorker};
 use crate::lasting_broker::LastingBroker;
-use crate::listening::{Service, work};
+use crate::listening::{Listeners, Service, work};
 use crate::stopping::Stopping;
 use journal_file::Storage;
 use lasting::{Policy, Settler, Settling, SharedJournal};
@@ -19,7 +19,7 @@ use seating::Seating;
 use serving::{Journaling, Left, Noted, Unserved, begin_noting};
 use std::alloc::{AllocError, Global};
 use std::marker::Brand;
-use std::net::{Net, TcpListener};
+use std::net::Net;
 use std::sync::Wait;
 use std::thread::{Threads, join};
 use std::time::Clock;
@@ -50,11 +50,11 @@ fn work_to_end<
     alloc: Global,
     desks: &InJournal<'a, J, S>,
     workers: u32,
-    listener: &TcpListener,
+    listeners: &Listeners,
 ) -> Result<Vec<LastingWorker<'a, J, S>>, AllocError>
     ensures { IfOk result (λ worked. vec_len worked ≡ workers) }
 {
-    let worked = work(rt, alloc, desks, desks.stopping, workers, listener);
+    let worked = work(rt, alloc, desks, desks.stopping, workers, listeners);
     desks.stopping.end();
     worked
 }
@@ -70,14 +70,14 @@ fn work_keeping<
     alloc: Global,
     desks: &InJournal<'a, J, S>,
     workers: u32,
-    listener: &TcpListener,
+    listeners: &Listeners,
 ) -> Result<Vec<LastingWorker<'a, J, S>>, AllocError>
     ensures { IfOk result (λ worked. vec_len worked ≡ workers) }
 {
     let ((), worked) = join(
         rt,
         || keep_beside(rt, desks.journal, desks.stopping),
-        || work_to_end(rt, alloc, desks, workers, listener),
+        || work_to_end(rt, alloc, desks, workers, listeners),
     );
     worked
 }
@@ -111,7 +111,7 @@ fn work_beside<
     seats: &Seating<J>,
     journal: &SharedJournal<'_, J, S>,
     workers: u32,
-    listener: &TcpListener,
+    listeners: &Listeners,
 ) -> Result<Vec<Assured<J>>, AllocError>
     ensures { IfOk result (λ tokens. AreKnown settled_told J.clients J.first workers tokens.items) }
 {
@@ -122,10 +122,10 @@ fn work_beside<
         stopping: &stopping,
     };
     if journal.policy() != Policy::EachSecond {
-        let worked = work(rt, alloc, &desks, &stopping, workers, listener)?;
+        let worked = work(rt, alloc, &desks, &stopping, workers, listeners)?;
         return tokens_of(alloc, worked);
     }
-    let worked = work_keeping(rt, alloc, &desks, workers, listener)?;
+    let worked = work_keeping(rt, alloc, &desks, workers, listeners)?;
     tokens_of(alloc, worked)
 }
 
@@ -155,12 +155,12 @@ fn serve_to_end<
     seats: &Seating<J>,
     journal: SharedJournal<'_, J, S>,
     workers: u32,
-    listener: &TcpListener,
+    listeners: &Listeners,
 ) -> Result<(Settler<J, S>, Vec<Assured<J>>), AllocError>
     ensures policy { IfOk result (λ r. r.0.policy ≡ J.policy) }
     ensures settled { IfOk result (λ r. AreKnown settled_told J.clients J.first workers r.1.items) }
 {
-    let tokens = work_beside(rt, alloc, seats, &journal, workers, listener)?;
+    let tokens = work_beside(rt, alloc, seats, &journal, workers, listeners)?;
     // Where that fails for good, nothing is left.
     let _ = journal.settle_and_keep(rt);
     Ok((journal.into_settler(), tokens))
@@ -177,7 +177,7 @@ fn served<
     noted: Noted,
     service: Service,
     journaling: Journaling<S>,
-    listener: &TcpListener,
+    listeners: &Listeners,
 ) -> Result<Left<S>, Unserved>
     requires name { IsNameOf J.roll J.clients J.first noted.noting }
     requires words { noted.words.items ≡ J.first.broker.words.kept }
@@ -194,7 +194,7 @@ fn served<
     } = LastingBroker::<J, S>::begin(alloc, noted, service.renew, journaling)?;
     let journal = SharedJournal::new(alloc, &shared, settler);
     let workers = service.workers.max(1);
-    match serve_to_end(rt, alloc, &seats, journal, workers, listener) {
+    match serve_to_end(rt, alloc, &seats, journal, workers, listeners) {
         Ok((settler, tokens)) => LastingBroker {
             shared,
             seats,
@@ -216,12 +216,12 @@ pub fn net_lasting<S: Storage + Drop + Send, R: Threads + Wait + Net + Clock + L
     broker: Broker,
     service: Service,
     journaling: Journaling<S>,
-    listener: &TcpListener,
+    listeners: &Listeners,
 ) -> Result<Left<S>, Unserved>
     requires { IsUncalled broker }
     // The session whose image and journal are left goes on from all that the workers settled, each request in turn.
     ensures { IfOk result (λ left. IsLeftServed broker (max service.workers 1) left.image.items left.journal) }
 {
     let noted = begin_noting(alloc, broker)?;
-    served::<Brand, S, R>(rt, alloc, noted, service, journaling, listener)
+    served::<Brand, S, R>(rt, alloc, noted, service, journaling, listeners)
 }

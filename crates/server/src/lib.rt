@@ -11,7 +11,9 @@ mod lasting_pipe;
 mod laws;
 mod listening;
 mod rounds;
+mod seen;
 mod stopping;
+mod telling;
 
 pub use lasting_net::net_lasting;
 pub use lasting_pipe::pipe_lasting;
@@ -19,4 +21,4 @@ pub use laws::{
     lives_go_on, replies_outlast_restarts, restarts_go_on, settled_numbers_outlast_restarts,
     told_replies_outlast_restarts,
 };
-pub use listening::{Service, net};
+pub use listening::{Listeners, Service, net};

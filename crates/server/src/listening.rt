@@ -10,7 +10,9 @@ use crate::connections::{BrokerWorker, Desks, InMemory, Worker};
 use crate::ending::{image_left, shareable, shared_seats};
 use crate::inbox::{Inbox, Post};
 use crate::rounds::{Serving, Station, serve_connections};
+use crate::seen::Seen;
 use crate::stopping::Stopping;
+use crate::telling::accept_beside;
 use log::{Log, warn};
 use named::Broker;
 use seating::Seating;
@@ -32,7 +34,7 @@ const REST_MILLIS: u64 = 10;
 const WAKE_SECONDS: u64 = 1;
 
 /// How many connections are open at most.
-const MAX_CONNECTIONS: usize = 1_024;
+pub(crate) const MAX_CONNECTIONS: usize = 1_024;
 
 /// How connections are served.
 #[derive(Clone, Copy)]
@@ -41,6 +43,15 @@ pub struct Service {
     pub workers: u32,
     /// Whether a queue begins in fresh records for a put or a take that finds no room, where that is worth it.
     pub renew: bool,
+}
+
+/// Where connections are taken.
+#[derive(Drop)]
+pub struct Listeners {
+    /// Those that are served.
+    pub clients: TcpListener,
+    /// Those that are told the broker's numbers, if any are.
+    pub metrics: Option<TcpListener>,
 }
 
 /// What a connection is told that is one too many.
@@ -108,7 +119,7 @@ fn accept<R: Wait + Clock + Log>(
 }
 
 /// The same, and says at the end that no more are taken.
-fn accept_to_end<R: Wait + Clock + Log>(
+pub(crate) fn accept_to_end<R: Wait + Clock + Log>(
     rt: &R,
     listener: &TcpListener,
     stopping: &Stopping,
@@ -122,11 +133,8 @@ fn accept_to_end<R: Wait + Clock + Log>(
     }
 }
 
-/// Wakes the thread that takes connections once no more are to be taken, by a connection to its own port.
-fn wake_at_stop<R: Wait + Net + Log>(rt: &R, stopping: &Stopping, address: Option<SocketAddr>) {
-    if !stopping.is_told(rt) {
-        return;
-    }
+/// Wakes the thread that takes connections at this address, by one more.
+pub(crate) fn wake<R: Net + Log>(rt: &R, address: Option<SocketAddr>) {
     let Some(address) = address else {
         warn!(rt; "the next connection is waited for");
         return;
@@ -135,6 +143,13 @@ fn wake_at_stop<R: Wait + Net + Log>(rt: &R, stopping: &Stopping, address: Optio
     let second = Duration::from_secs(WAKE_SECONDS);
     if TcpStream::connect_timeout(rt, &address, second).is_err() {
         warn!(rt; "the next connection is waited for");
+    }
+}
+
+/// Wakes the thread that takes connections once no more are to be taken, by a connection to its own port.
+fn wake_at_stop<R: Wait + Net + Log>(rt: &R, stopping: &Stopping, address: Option<SocketAddr>) {
+    if stopping.is_told(rt) {
+        wake(rt, address);
     }
 }
 
@@ -224,7 +239,7 @@ fn stations_of<'a, W: Worker + Drop, D: Desks<W>, R: Wait>(
 /// have ended. It answers those workers. At an `Err` there was no memory, or the system had no descriptors to wait with.
 pub(crate) fn work<
     W: Worker + Send + Drop,
-    D: Desks<W> + Sync,
+    D: Desks<W> + Seen + Sync,
     R: Threads + Wait + Net + Clock + Log + Sync,
 >(
     rt: &R,
@@ -232,7 +247,7 @@ pub(crate) fn work<
     desks: &D,
     stopping: &Stopping,
     workers: u32,
-    listener: &TcpListener,
+    listeners: &Listeners,
 ) -> Result<Vec<W>, AllocError>
     ensures { IfOk result (λ worked. vec_len worked ≡ workers) }
 {
@@ -241,10 +256,10 @@ pub(crate) fn work<
     };
     let stations = stations_of(rt, alloc, desks, &inboxes, posts)?;
     let serving = Serving { desks, stopping };
-    let address = listener.local_addr().ok();
+    let address = listeners.clients.local_addr().ok();
     let ((), worked) = join(
         rt,
-        || accept_to_end(rt, listener, stopping, &inboxes, MAX_CONNECTIONS),
+        || accept_beside(rt, alloc, &serving, listeners, &inboxes),
         || serve_until_stopped(rt, alloc, &serving, stations, address),
     );
     worked
@@ -272,7 +287,7 @@ fn serve_seats<J: Naming + Send + Sync, R: Threads + Wait + Net + Clock + Log + 
     shared: &Shared<J>,
     seats: &Seating<J>,
     workers: u32,
-    listener: &TcpListener,
+    listeners: &Listeners,
 ) -> Result<Vec<Marked<J>>, AllocError>
     ensures { IfOk result (λ marks. AreKnown all_told J.clients J.first workers marks.items) }
 {
@@ -282,7 +297,7 @@ fn serve_seats<J: Naming + Send + Sync, R: Threads + Wait + Net + Clock + Log + 
         seats,
         stopping: &stopping,
     };
-    let workers = work(rt, alloc, &desks, &stopping, workers, listener)?;
+    let workers = work(rt, alloc, &desks, &stopping, workers, listeners)?;
     marks_of(alloc, workers)
 }
 
@@ -292,7 +307,7 @@ fn served<J: Naming + Send + Sync, R: Threads + Wait + Net + Clock + Log + Sync>
     alloc: Global,
     opened: Opened,
     service: Service,
-    listener: &TcpListener,
+    listeners: &Listeners,
 ) -> Result<Vec<u8>, Refusal>
     requires name { IsNameOf J.roll J.clients J.first opened }
     requires opened { IsOpenedOver J.first.broker J.first }
@@ -301,24 +316,24 @@ fn served<J: Naming + Send + Sync, R: Threads + Wait + Net + Clock + Log + Sync>
 {
     let (shared, seats) = shared_seats::<J>(alloc, opened, service.renew)?;
     let workers = service.workers.max(1);
-    match serve_seats(rt, alloc, &shared, &seats, workers, listener) {
+    match serve_seats(rt, alloc, &shared, &seats, workers, listeners) {
         Ok(marks) => image_left(alloc, shared, seats, workers, marks),
         Err(_) => Err(Refusal::NoMemory),
     }
 }
 
-/// Serves the connections of a listener by worker threads, until a stop is accepted and all connections have ended; it
+/// Serves the connections of listeners by worker threads, until a stop is accepted and all connections have ended; it
 /// answers the image of the broker as it is then. Each connection is given to the worker that has the fewest; beyond
 /// 1,024 one is told Full, and closed. Those that come after an accepted stop are closed unserved. It is refused before
 /// any is taken where a call or a creation is under way (Busy), and for want of memory, or of descriptors to wait with
 /// (NoMemory); for want of memory also after all have ended. Where the threads to take connections and to serve them
-/// cannot be made, it does not return.
+/// cannot be made, it does not return. Who connects for numbers is answered by a thread of its own meanwhile.
 pub fn net<R: Threads + Wait + Net + Clock + Log + Sync>(
     rt: &R,
     alloc: Global,
     broker: Broker,
     service: Service,
-    listener: &TcpListener,
+    listeners: &Listeners,
 ) -> Result<Vec<u8>, Refusal>
     requires { IsUncalled broker }
     // The session whose image is left goes on from all that the workers answered, each request in turn.
@@ -326,5 +341,5 @@ pub fn net<R: Threads + Wait + Net + Clock + Log + Sync>(
     ensures errors { IfErr result IsBusyOrNoMemory }
 {
     let opened = shareable(alloc, broker)?;
-    served::<Brand, R>(rt, alloc, opened, service, listener)
+    served::<Brand, R>(rt, alloc, opened, service, listeners)
 }

@@ -74,6 +74,7 @@ fn turn_of<W: Worker, R: Wait + Log>(
     rt: &R,
     alloc: Global,
     worker: &mut W,
+    inbox: &Inbox,
     connection: Connection,
 ) -> Option<Connection> {
     let Connection {
@@ -86,6 +87,7 @@ fn turn_of<W: Worker, R: Wait + Log>(
     let mut writer = Outgoing::new(&socket, unsent);
     let mut reader = Incoming::new(&socket, part);
     let served = send_and_serve(rt, alloc, worker, &mut reader, &mut writer, ends);
+    inbox.replied(writer.lines());
     let flow = reader.flow();
     let part = reader.into_part();
     let unsent = writer.into_unsent();
@@ -156,7 +158,7 @@ impl<'a, W: Worker + Drop> Round<'a, W> {
         let Some(connection) = self.places.get_mut(place).and_then(Option::take) else {
             return;
         };
-        let connection = turn_of(rt, alloc, &mut self.worker, connection);
+        let connection = turn_of(rt, alloc, &mut self.worker, self.inbox, connection);
         match &connection {
             Some(connection) => self.paused = self.paused || connection.paused,
             None => self.inbox.closed(),

@@ -1,0 +1,11 @@
+//! The numbers of a broker that is served, for who asks by HTTP: as Prometheus reads them, as JSON, and as a page.
+#![tactic(auto)]
+
+mod answers;
+mod asked;
+mod exchange;
+mod page;
+mod scrapes;
+
+pub use asked::{Asked, asked_by};
+pub use scrapes::{Watched, answer_scrapes};
