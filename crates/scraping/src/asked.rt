@@ -21,11 +21,11 @@ pub enum Asked {
 fn standing_at(path: &[u8]) -> Asked
     ensures { StandsAt path.now result }
 {
-    if path == b"/metrics" {
+    if path == b"/metrics".as_slice() {
         Asked::Metrics
-    } else if path == b"/stats" {
+    } else if path == b"/stats".as_slice() {
         Asked::Stats
-    } else if path == b"/" {
+    } else if path == b"/".as_slice() {
         Asked::Page
     } else {
         Asked::Nothing
@@ -37,7 +37,7 @@ pub fn asked_by(method: &[u8], path: &[u8]) -> Asked
     ensures { Asks method.now path.now result }
 {
     let asked = standing_at(path);
-    if method == b"GET" {
+    if method == b"GET".as_slice() {
         return asked;
     }
     match asked {
