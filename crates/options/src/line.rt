@@ -1,6 +1,6 @@
 //! What a parse of a command line of `pqd` asks.
 
-ghost use Rattle.std.specs.Prelude.{◌≡◌, IfOk, OnErr, Some};
+ghost use Rattle.std.specs.Prelude.{◌≡◌, IfOk, OnErr, OnOk, Some};
 ghost use Rattle.clap.specs.Words.{first_value, found_of, subcommand_rows_of};
 ghost use Rattle.options.specs.Asked.{AllFit, Asks, IsKnown, IsPortGiven, ListeningFits, ListensBy};
 ghost use Rattle.options.specs.Numbers.{Fits, given_text};
@@ -17,6 +17,7 @@ use clap::ArgMatches;
 /// The port at which numbers are told, if one is given.
 fn metrics(given: Option<&str>) -> Result<Option<u16>, Misfit>
     ensures asked { IfOk result (IsPortGiven (given_text given.entry)) }
+    ensures fits { OnOk result (Fits 0 MAX_PORT (given_text given.entry)) }
     ensures misfit { OnErr result (¬ (Fits 0 MAX_PORT (given_text given.entry))) }
 {
     match given {
