@@ -23,8 +23,9 @@ queue_datas (None ∷ more) = queue_datas more
 queue_datas (Some q ∷ more) = queue_data q ∷ queue_datas more
 
 abbrev pub journal_data : JournalGauges → Data
-journal_data j = object (member (codes "failed") (boolean j.failed)
-    (member (codes "sync") (string (keeping_text j.keeping)) no_members))
+journal_data j = object (whole (codes "batches") j.batches (whole (codes "bytes") j.bytes
+    (member (codes "failed") (boolean j.failed) (whole (codes "failures") j.failures (whole (codes "kept") j.kept
+    (member (codes "sync") (string (keeping_text j.keeping)) no_members))))))
 
 abbrev pub journal_data_of : Option JournalGauges → Data
 journal_data_of None = null

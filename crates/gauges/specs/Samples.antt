@@ -80,8 +80,15 @@ unfoldable pub failed_text : List ℕ → JournalGauges → List ℕ
 failed_text name j = name ++ codes "{sync=\"" ++ keeping_text j.keeping ++ codes "\"} " ++ decimal (flag j.failed)
     ++ codes "\n"
 
+abbrev pub counts_samples : JournalGauges → List ℕ
+counts_samples j = gauge_text (codes "wistaku_journal_bytes") (codes "Bytes of the journal.") j.bytes
+    ++ gauge_text (codes "wistaku_journal_kept_bytes") (codes "Bytes that were there when all were last synced.") j.kept
+    ++ counter_text (codes "wistaku_journal_batches_total") (codes "Batches that were appended.") j.batches
+    ++ counter_text (codes "wistaku_journal_failures_total") (codes "Failures to append or to sync.") j.failures
+
 abbrev pub journal_samples : JournalGauges → List ℕ
-journal_samples j = family_text (codes "wistaku_journal_failed") (codes "gauge") (codes "1 where the journal has failed for good.")
+journal_samples j = counts_samples j
+    ++ family_text (codes "wistaku_journal_failed") (codes "gauge") (codes "1 where the journal has failed for good.")
     ++ failed_text (codes "wistaku_journal_failed") j
 
 abbrev pub journal_samples_of : Option JournalGauges → List ℕ

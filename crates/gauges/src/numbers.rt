@@ -33,6 +33,13 @@ pub enum Keeping {
 #[derive(Clone, Copy)]
 pub struct JournalGauges {
     pub keeping: Keeping,
+    pub bytes: u64,
+    /// How many of its bytes were there when all were last kept.
+    pub kept: u64,
+    /// How many batches were appended.
+    pub batches: u64,
+    /// How often it failed to append a batch, or to keep one.
+    pub failures: u64,
     /// Whether it has failed for good.
     pub failed: bool,
 }

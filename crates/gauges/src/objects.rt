@@ -43,9 +43,15 @@ fn queues_value(alloc: Global, queues: &[Option<QueueGauges>]) -> Result<Value, 
 fn journal_value(alloc: Global, journal: &JournalGauges) -> Result<Value, AllocError>
     ensures { IfOk result (λ value. view value ≡ journal_data journal.now) }
 {
-    let failed = journal.failed;
     let sync = keeping_text(journal.keeping);
-    json!(in alloc; {"failed": failed, "sync": sync})
+    json!(in alloc; {
+        "batches": journal.batches,
+        "bytes": journal.bytes,
+        "failed": journal.failed,
+        "failures": journal.failures,
+        "kept": journal.kept,
+        "sync": sync
+    })
 }
 
 /// A journal, or null where there is none.

@@ -1,7 +1,7 @@
 //! The numbers as Prometheus reads them: a line for each, below two that say what it is.
 
 ghost use Rattle.std.specs.Prelude.{◌≡◌, ◌++◌, string_bytes, IfOk, OnOk};
-ghost use Rattle.gauges.specs.Samples.{broker_samples, count_of, counter_text, failed_text, family_text, flag, gauge_text, help_of};
+ghost use Rattle.gauges.specs.Samples.{broker_samples, count_of, counter_text, counts_samples, failed_text, family_text, flag, gauge_text, help_of};
 ghost use Rattle.gauges.specs.Samples.{journal_samples, keeping_text, metrics_text, name_of, queue_samples, queue_text};
 ghost use Rattle.gauges.specs.Samples.{queue_texts, server_samples};
 ghost use Rattle.wire.specs.Kinds.{kind_text};
@@ -203,10 +203,41 @@ fn append_failed(text: &mut String, name: &str, journal: &JournalGauges) -> Resu
     write!(text, "{name}{{sync=\"{sync}\"}} {value}\n")
 }
 
+/// What is counted of a journal.
+fn append_counts(text: &mut String, journal: &JournalGauges) -> Result<(), AllocError>
+    ensures { OnOk result (string_bytes text.new ≡ string_bytes text.old ++ counts_samples journal.now) }
+{
+    append_gauge(
+        text,
+        "wistaku_journal_bytes",
+        "Bytes of the journal.",
+        journal.bytes,
+    )?;
+    append_gauge(
+        text,
+        "wistaku_journal_kept_bytes",
+        "Bytes that were there when all were last synced.",
+        journal.kept,
+    )?;
+    append_counter(
+        text,
+        "wistaku_journal_batches_total",
+        "Batches that were appended.",
+        journal.batches,
+    )?;
+    append_counter(
+        text,
+        "wistaku_journal_failures_total",
+        "Failures to append or to sync.",
+        journal.failures,
+    )
+}
+
 /// What is told of a journal.
 fn append_journal(text: &mut String, journal: &JournalGauges) -> Result<(), AllocError>
     ensures { OnOk result (string_bytes text.new ≡ string_bytes text.old ++ journal_samples journal.now) }
 {
+    append_counts(text, journal)?;
     append_family(
         text,
         "wistaku_journal_failed",

@@ -87,8 +87,9 @@ function show(stats) {
   rows(stats);
   line(stats);
   const journal = stats.journal;
-  list("journal", journal ? [["sync", journal.sync],
-    ["state", journal.failed ? "failed" : "goes on", journal.failed ? "bad" : ""]] : [["journal", "none"]]);
+  list("journal", journal ? [["sync", journal.sync], ["bytes", journal.bytes], ["synced", journal.kept],
+    ["batches", journal.batches], ["failures", journal.failures, journal.failures ? "bad" : ""], ["state",
+    journal.failed ? "failed" : "goes on", journal.failed ? "bad" : ""]] : [["journal", "none"]]);
 }
 async function look() {
   try {

@@ -106,8 +106,13 @@ impl<'a, J: Naming + Settling, S: Storage + Drop> Seen for InJournal<'a, J, S> {
     }
 
     fn journal(&self) -> Option<JournalGauges> {
+        let counts = self.journal.counts();
         Some(JournalGauges {
             keeping: keeping_of(self.journal.policy()),
+            bytes: counts.size,
+            kept: counts.kept,
+            batches: counts.batches,
+            failures: counts.failures,
             failed: self.journal.has_failed(),
         })
     }
