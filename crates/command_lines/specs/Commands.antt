@@ -45,6 +45,11 @@ serve_app = with_rule (with_rule (with_rule (with_rule (with_journal_rules (with
     (option_rule (codes "metrics")))
     (option_rule (codes "workers"))
 
+abbrev pub stats_app : App
+stats_app = with_rule (with_rule (new_app (codes "stats"))
+    (option_rule (codes "port")))
+    (flag_rule (codes "watch"))
+
 -- `pqd` itself, which wants a command, tells its version, and has no command that is called help
 abbrev pub top_app : App
 top_app = on_top
@@ -52,4 +57,4 @@ top_app = on_top
     (new_app (codes "pqd"))
 
 abbrev pub pqd_app : App
-pqd_app = with_subcommand (with_subcommand top_app pipe_app.top) serve_app.top
+pqd_app = with_subcommand (with_subcommand (with_subcommand top_app pipe_app.top) serve_app.top) stats_app.top

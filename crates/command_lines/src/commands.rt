@@ -228,7 +228,26 @@ const SERVE: DescribedCommand<'static> = DescribedCommand {
     ],
 };
 
-static COMMANDS: [DescribedCommand<'static>; 2] = [PIPE, SERVE];
+/// `stats [--port P] [--watch]`
+const STATS: DescribedCommand<'static> = DescribedCommand {
+    name: "stats",
+    about: "Prints the numbers that a server tells at its port of numbers",
+    notes: None,
+    takes: &[
+        Described {
+            name: "port",
+            form: Form::Option("P"),
+            help: "The port that the server has for numbers, 1 to 65535 [default: 7071]",
+        },
+        Described {
+            name: "watch",
+            form: Form::Flag,
+            help: "Prints them again each second",
+        },
+    ],
+};
+
+static COMMANDS: [DescribedCommand<'static>; 3] = [PIPE, SERVE, STATS];
 
 /// `pqd` without its commands.
 const PQD: DescribedCommand<'static> = DescribedCommand {
@@ -238,7 +257,7 @@ const PQD: DescribedCommand<'static> = DescribedCommand {
     takes: &[],
 };
 
-/// `pqd pipe`, `pqd serve`
+/// `pqd pipe`, `pqd serve`, `pqd stats`
 pub(crate) fn pqd<'a>(alloc: Global) -> Result<Command<'a>, AllocError>
     ensures app { IfOk result (λ c. app_of c ≡ pqd_app) }
 {

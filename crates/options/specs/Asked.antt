@@ -6,9 +6,12 @@ use Rattle.std.specs.declared.net.ip_addr.IpAddr.TheVariants.{V4, V6}
 use Rattle.std.specs.Net.Addr.{ipv4_octets}
 use Rattle.words.specs.declared.limits.TheConstants.{MAX_CLIENTS, MAX_RECORDS}
 use Rattle.clap.specs.Words.{Row, Text, first_of}
-use Rattle.options.specs.declared.limits.TheConstants.{DEFAULT_CLIENTS, DEFAULT_RECORDS, DEFAULT_PORT, DEFAULT_WORKERS, MAX_PORT, MAX_WORKERS}
+use Rattle.options.specs.declared.limits.TheConstants.{DEFAULT_CLIENTS, DEFAULT_RECORDS, DEFAULT_PORT, DEFAULT_STATS_PORT, DEFAULT_WORKERS, MAX_PORT, MAX_WORKERS}
 use Rattle.options.specs.Numbers.{Fits, decimal_value, given_text, number_of}
+use Rattle.options.specs.declared.asked.Asked.{Asked}
+use Rattle.options.specs.declared.asked.Asked.TheVariants.{Printing as printing_asked, Serving}
 use Rattle.options.specs.declared.asked.Options.{Options}
+use Rattle.options.specs.declared.asked.Printing.{Printing}
 use Rattle.options.specs.declared.asked.Listening.{Listening}
 use Rattle.options.specs.declared.asked.Mode.{Mode}
 use Rattle.options.specs.declared.asked.Mode.TheVariants.{Pipe, Serve}
@@ -22,9 +25,13 @@ name_in = option_map (λ met. met.0)
 abbrev pub values_in : Option (Text × List Row) → Text → Option Text
 values_in met option = option_and_then (λ m. first_of option m.1) met
 
--- the command is one of two
+-- the command is one of the two that serve
+abbrev pub Serves : Option Text → Type 0
+Serves command = (command ≡ Some (codes "pipe")) ⊎ (command ≡ Some (codes "serve"))
+
+-- or the one that prints numbers
 abbrev pub IsKnown : Option Text → Type 0
-IsKnown command = (command ≡ Some (codes "pipe")) ⊎ (command ≡ Some (codes "serve"))
+IsKnown command = (command ≡ Some (codes "stats")) ⊎ Serves command
 
 -- no address is given, or one that the text writes
 abbrev pub AddressFits : Option Text → Type 0
@@ -83,10 +90,30 @@ pub record Asks (command : Option Text) (given : Text → Option Text) (o : Opti
   pub renew : IsTrue o.renew ↔ (given (codes "renew") ≡ Some (codes "true"))
   pub mode : IsModeOf command given o.mode
 
+-- what the command that prints numbers was given fits
+abbrev pub PrintingFits : (Text → Option Text) → Type 0
+PrintingFits given = Fits 1 MAX_PORT (given (codes "port"))
+
+-- the values of its options ask this
+pub record PrintsBy (given : Text → Option Text) (p : Printing) : Type 0 where
+  pub fit : PrintingFits given
+  pub port : p.port ≡ number_of DEFAULT_STATS_PORT (given (codes "port"))
+  pub watch : IsTrue p.watch ↔ (given (codes "watch") ≡ Some (codes "true"))
+
+-- a command and the values of its options ask this
+abbrev pub AsksFor : Option Text → (Text → Option Text) → Asked → Type 0
+AsksFor command given (Serving o) = Serves command × Asks command given o
+AsksFor command given (printing_asked p) = (command ≡ Some (codes "stats")) × PrintsBy given p
+
+-- what a command was given fits
+abbrev pub FitsAll : Option Text → (Text → Option Text) → Type 0
+FitsAll command given =
+    ((command ≡ Some (codes "stats")) × PrintingFits given) ⊎ (Serves command × AllFit command given)
+
 -- the command that a parse met asks this, with what its options were given
-abbrev pub CommandAsks : Option (Text × List Row) → Options → Type 0
-CommandAsks met o = Asks (name_in met) (values_in met) o
+abbrev pub CommandAsks : Option (Text × List Row) → Asked → Type 0
+CommandAsks met asked = AsksFor (name_in met) (values_in met) asked
 
 -- what its options were given fits
 abbrev pub CommandFits : Option (Text × List Row) → Type 0
-CommandFits met = AllFit (name_in met) (values_in met)
+CommandFits met = FitsAll (name_in met) (values_in met)

@@ -5,12 +5,12 @@ ghost use Rattle.clap.specs.Words.{first_value, found_of, subcommand_rows_of};
 ghost use Rattle.options.specs.Asked.{AllFit, Asks, IsKnown, IsPortGiven, ListeningFits, ListensBy};
 ghost use Rattle.options.specs.Numbers.{Fits, given_text};
 ghost use Rattle.options.specs.declared.limits.TheConstants.{MAX_PORT};
-ghost use Rattle.options.specs.Asked.{CommandAsks, CommandFits, name_in};
+ghost use Rattle.options.specs.Asked.{AsksFor, CommandAsks, CommandFits, FitsAll, PrintingFits, PrintsBy, Serves, name_in};
 
 use crate::address::address;
-use crate::asked::{Listening, Mode, Options};
+use crate::asked::{Asked, Listening, Mode, Options, Printing};
 use crate::journaling::{is_set, journaling};
-use crate::limits::{CLIENTS, METRICS, PORT, RECORDS, WORKERS};
+use crate::limits::{CLIENTS, METRICS, PORT, RECORDS, STATS_PORT, WORKERS};
 use crate::number::Misfit;
 use clap::ArgMatches;
 
@@ -39,9 +39,21 @@ fn listening(given: &ArgMatches<'_>) -> Result<Listening, Misfit>
     })
 }
 
-/// What a command asks with the options that it was given.
+/// What `stats` prints.
+fn printing(given: &ArgMatches<'_>) -> Result<Printing, Misfit>
+    ensures asked { IfOk result (PrintsBy (first_value (found_of given.now))) }
+    ensures misfit { OnErr result (¬ (PrintingFits (first_value (found_of given.now)))) }
+{
+    let port = STATS_PORT.read(given.get_str("port"))?;
+    Ok(Printing {
+        port: port as u16,
+        watch: is_set(given, "watch"),
+    })
+}
+
+/// What a command that serves asks with the options that it was given.
 fn options<'a>(command: &str, given: &ArgMatches<'a>) -> Result<Options<'a>, Misfit>
-    requires known { IsKnown (Some command.now) }
+    requires known { Serves (Some command.now) }
     ensures asked { IfOk result (Asks (Some command.now) (first_value (found_of given.now))) }
     ensures misfit { OnErr result (¬ (AllFit (Some command.now) (first_value (found_of given.now)))) }
 {
@@ -62,8 +74,20 @@ fn options<'a>(command: &str, given: &ArgMatches<'a>) -> Result<Options<'a>, Mis
     })
 }
 
+/// What a command asks with the options that it was given.
+fn asked<'a>(command: &str, given: &ArgMatches<'a>) -> Result<Asked<'a>, Misfit>
+    requires known { IsKnown (Some command.now) }
+    ensures asked { IfOk result (AsksFor (Some command.now) (first_value (found_of given.now))) }
+    ensures misfit { OnErr result (¬ (FitsAll (Some command.now) (first_value (found_of given.now)))) }
+{
+    if command == "stats" {
+        return Ok(Asked::Printing(printing(given)?));
+    }
+    Ok(Asked::Serving(options(command, given)?))
+}
+
 /// What a parse found to be asked.
-pub fn asked_in<'a>(matches: &ArgMatches<'a>) -> Result<Options<'a>, Misfit>
+pub fn asked_in<'a>(matches: &ArgMatches<'a>) -> Result<Asked<'a>, Misfit>
     requires known { IsKnown (name_in (subcommand_rows_of matches.now)) }
     ensures asked { IfOk result (CommandAsks (subcommand_rows_of matches.now)) }
     ensures misfit { OnErr result (¬ (CommandFits (subcommand_rows_of matches.now))) }
@@ -71,5 +95,5 @@ pub fn asked_in<'a>(matches: &ArgMatches<'a>) -> Result<Options<'a>, Misfit>
     let Some((command, given)) = matches.subcommand() else {
         unreachable!();
     };
-    options(command, given)
+    asked(command, given)
 }

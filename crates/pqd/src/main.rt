@@ -1,4 +1,4 @@
-//! A broker that serves standard input, or connections.
+//! A broker that serves standard input, or connections; and the numbers of one that does.
 #![tactic(auto)]
 
 ghost use Rattle.std.specs.Prelude.{◌≡◌, IfOk};
@@ -9,6 +9,8 @@ mod image;
 mod keeping;
 mod logging;
 mod standby;
+mod stats;
+mod table;
 
 use command_lines::command_line;
 use devices::{CountedReader, CountedWriter};
@@ -16,12 +18,12 @@ use etcd_log::Undone;
 use log::Log;
 use named::Broker;
 use opening::{opened, renewed};
-use options::{Journaling, Listening, Mode, Options};
+use options::{Asked, Journaling, Listening, Mode, Options};
 use server::{Listeners, Service, net};
 use serving::{Unserved, pipe};
 use std::fs::File;
 use std::io;
-use std::net::{IpAddr, Ipv4Addr, Net, SocketAddr, TcpListener};
+use std::net::{Ipv4Addr, Net, SocketAddr, TcpListener};
 use std::process::ExitCode;
 use std::sync::Wait;
 use std::thread::Threads;
@@ -36,6 +38,9 @@ enum Fault {
     Refused(Refusal),
     #[error("listen failed")]
     Listen,
+    /// Nobody tells numbers at the port.
+    #[error("no server tells its numbers there")]
+    Untold,
     /// The journal's file is not used.
     #[error("{0}")]
     Journal(journal_store::Fault),
@@ -136,14 +141,16 @@ fn bound(rt: &HostRuntime, at: SocketAddr) -> Result<(TcpListener, SocketAddr), 
     }
 }
 
+/// A port of this machine alone.
+fn here(port: u16) -> SocketAddr {
+    SocketAddr::from((Ipv4Addr::new(127, 0, 0, 1), port))
+}
+
 /// Where connections are taken: at the address, which is answered too, and for numbers on this machine alone.
 fn bound_listeners(rt: &HostRuntime, at: Listening) -> Result<(Listeners, SocketAddr), Fault> {
     let (clients, address) = bound(rt, SocketAddr::from((at.address, at.port)))?;
     let metrics = match at.metrics {
-        Some(port) => {
-            let here = IpAddr::V4(Ipv4Addr::new(127, 0, 0, 1));
-            Some(bound(rt, SocketAddr::from((here, port)))?.0)
-        }
+        Some(port) => Some(bound(rt, here(port))?.0),
         None => None,
     };
     Ok((Listeners { clients, metrics }, address))
@@ -255,8 +262,12 @@ fn follow<T: Threads + Wait + Net + Log + Clock + Sync>(
 ) -> Result<ExitCode, Fault> {
     let words = command_lines::words(rt)?;
     match command_line(rt.alloc(), &words) {
-        Ok(asked) => {
+        Ok(Asked::Serving(asked)) => {
             serve(threads, rt, asked)?;
+            Ok(ExitCode::SUCCESS)
+        }
+        Ok(Asked::Printing(asked)) => {
+            stats::print(rt, asked)?;
             Ok(ExitCode::SUCCESS)
         }
         Err(error) => Ok(command_lines::explained(rt, &error)?),

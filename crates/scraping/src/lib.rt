@@ -3,9 +3,11 @@
 
 mod answers;
 mod asked;
+mod asking;
 mod exchange;
 mod page;
 mod scrapes;
 
 pub use asked::{Asked, asked_by};
+pub use asking::ask_stats;
 pub use scrapes::{Watched, answer_scrapes};
