@@ -66,7 +66,7 @@ bad_option "unexpected argument '--announce' found" 'pqd pipe [OPTIONS]' pipe --
 bad_option "unexpected argument '--clint' found"$'\n\n  tip: '"a similar argument exists: '--clients'" \
     'pqd pipe --clients <T>' pipe --clint 4
 for option in 'clients <T>' 'records <K>' 'image <FILE>' 'journal <FILE>' 'sync <WHEN>' 'listen <ADDRESS>' 'port <P>' \
-    'workers <N>' 'connections <C>' 'idle <SECONDS>' 'secret <FILE>' 'patience <S>' 'announce <HOST:PORT>'; do
+    'metrics <PORT>' 'workers <N>' 'connections <C>' 'idle <SECONDS>' 'secret <FILE>' 'patience <S>' 'announce <HOST:PORT>'; do
     bad_option "a value is required for '--$option' but none was supplied" '' serve "--${option%% *}"
     bad_option "the argument '--$option' cannot be used multiple times" 'pqd serve [OPTIONS]' \
         serve "--${option%% *}" 1 "--${option%% *}" 1
@@ -83,6 +83,7 @@ misfits() {
 misfits clients 1 16 0 17 -1 1.0 four '' 18446744073709551617
 misfits records 1 4096 0 4097 5000 -1 x ''
 misfits port 0 65535 65536 -1 4294967296 ''
+misfits metrics 0 65535 65536 -1 x ''
 misfits workers 1 16 0 17 ''
 misfits connections 1 65536 0 65537 -1 ''
 misfits idle 1 86400 0 86401 1.5 ''

@@ -1,4 +1,4 @@
--- Words with which clap finds no fault name one of the two commands.
+-- Words with which clap finds no fault name one of the three commands.
 use Rattle.std.proofs.Common.{◌≡◌, ◌⊎◌, ◌&&◌, Bool, true, false, true≢false, cond, not, List, [], ◌∷◌, length, Option, Some, None, refl, sym, ap, inl, inr, arith, is_some}
 use Rattle.std.specs.Prelude.{find, option_map, option_and_then}
 use Rattle.std.specs.List.{list_any}
@@ -12,7 +12,7 @@ use Rattle.clap.specs.Words.{Row, Shape, Text, fault_of, subcommand_of}
 use Rattle.clap.specs.declared.error.kind.ErrorKind.{ErrorKind}
 use Rattle.clap.specs.declared.error.kind.ErrorKind.TheVariants.{DisplayHelpOnMissingArgumentOrSubcommand, MissingSubcommand}
 use Rattle.options.specs.Asked.{IsKnown, name_in}
-use Rattle.command_lines.specs.Commands.{pipe_app, pqd_app, serve_app}
+use Rattle.command_lines.specs.Commands.{pipe_app, pqd_app, serve_app, stats_app}
 use Rattle.command_lines.specs.Lines.{command_name}
 
 filled : (k : ErrorKind) (ks : Kinds) → k ∷ ks ≡ [] → ⊥
@@ -48,19 +48,25 @@ met_at_level s names h words has below wanted e =
 abbrev entered_of : List Shape → Option (Text × List Text) → Option (Text × List Row)
 entered_of subs stop = option_and_then (λ p. option_map (λ s. rows_at s p.1) (find (λ s. answers_to p.0 (label_of s)) subs)) stop
 
--- of two commands, the one that is met is one of them
-first_or_second : (x y : Shape) (b c : Bool) (rest : List Text)
-    → is_some (option_map (λ s. rows_at s rest) (cond b (Some x) (cond c (Some y) None))) ≡ true
-    → (name_in (option_map (λ s. rows_at s rest) (cond b (Some x) (cond c (Some y) None))) ≡ Some x.name)
-    ⊎ (name_in (option_map (λ s. rows_at s rest) (cond b (Some x) (cond c (Some y) None))) ≡ Some y.name)
-first_or_second x y true c rest e = inl refl
-first_or_second x y false true rest e = inr refl
-first_or_second x y false false rest e = absurd (true≢false (sym e))
+-- the one that is found of three, with what it was given
+abbrev found_of_three : Shape → Shape → Shape → Bool → Bool → Bool → List Text → Option (Text × List Row)
+found_of_three x y z b c d rest = option_map (λ s. rows_at s rest) (cond b (Some x) (cond c (Some y) (cond d (Some z) None)))
 
-one_of_two : (x y : Shape) (stop : Option (Text × List Text)) → is_some (entered_of (x ∷ y ∷ []) stop) ≡ true
-    → (name_in (entered_of (x ∷ y ∷ []) stop) ≡ Some x.name) ⊎ (name_in (entered_of (x ∷ y ∷ []) stop) ≡ Some y.name)
-one_of_two x y None e = absurd (true≢false (sym e))
-one_of_two x y (Some p) e = first_or_second x y (answers_to p.0 (label_of x)) (answers_to p.0 (label_of y)) p.1 e
+-- of three commands, the one that is met is one of them
+one_in_three : (x y z : Shape) (b c d : Bool) (rest : List Text) → is_some (found_of_three x y z b c d rest) ≡ true
+    → (name_in (found_of_three x y z b c d rest) ≡ Some z.name)
+    ⊎ ((name_in (found_of_three x y z b c d rest) ≡ Some x.name) ⊎ (name_in (found_of_three x y z b c d rest) ≡ Some y.name))
+one_in_three x y z true c d rest e = inr (inl refl)
+one_in_three x y z false true d rest e = inr (inr refl)
+one_in_three x y z false false true rest e = inl refl
+one_in_three x y z false false false rest e = absurd (true≢false (sym e))
+
+one_of_three : (x y z : Shape) (stop : Option (Text × List Text)) → is_some (entered_of (x ∷ y ∷ z ∷ []) stop) ≡ true
+    → (name_in (entered_of (x ∷ y ∷ z ∷ []) stop) ≡ Some z.name)
+    ⊎ ((name_in (entered_of (x ∷ y ∷ z ∷ []) stop) ≡ Some x.name) ⊎ (name_in (entered_of (x ∷ y ∷ z ∷ []) stop) ≡ Some y.name))
+one_of_three x y z None e = absurd (true≢false (sym e))
+one_of_three x y z (Some p) e =
+    one_in_three x y z (answers_to p.0 (label_of x)) (answers_to p.0 (label_of y)) (answers_to p.0 (label_of z)) p.1 e
 
 -- a command of `pqd` as clap builds it
 abbrev built_below : Shape → Shape
@@ -72,4 +78,4 @@ known words e =
     let stop = stop_after all.top.rules (names_of all) (argument_words pqd_app words) in
     let met : is_some (subcommand_of pqd_app words) ≡ true = met_at_level all.top (names_of all) nothing_held (argument_words pqd_app words)
     (is_some (subcommand_of pqd_app words)) (entered_fault all stop) refl e in
-    one_of_two (built_below pipe_app.top) (built_below serve_app.top) stop met
+    one_of_three (built_below pipe_app.top) (built_below serve_app.top) (built_below stats_app.top) stop met

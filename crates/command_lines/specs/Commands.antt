@@ -40,10 +40,11 @@ pipe_app = with_journal_rules (with_queue_rules (new_app (codes "pipe")))
 
 -- a command with the options of a server
 abbrev pub with_listening_rules : App → App
-with_listening_rules a = with_rule (with_rule (with_rule (with_rule (with_rule (with_rule (with_rule a
+with_listening_rules a = with_rule (with_rule (with_rule (with_rule (with_rule (with_rule (with_rule (with_rule a
     (option_rule (codes "announce")))
     (option_rule (codes "listen")))
     (option_rule (codes "port")))
+    (option_rule (codes "metrics")))
     (option_rule (codes "workers")))
     (option_rule (codes "connections")))
     (option_rule (codes "idle")))
@@ -52,6 +53,11 @@ with_listening_rules a = with_rule (with_rule (with_rule (with_rule (with_rule (
 abbrev pub serve_app : App
 serve_app = with_listening_rules (with_journal_rules (with_queue_rules (new_app (codes "serve"))))
 
+abbrev pub stats_app : App
+stats_app = with_rule (with_rule (new_app (codes "stats"))
+    (option_rule (codes "port")))
+    (flag_rule (codes "watch"))
+
 -- `pqd` itself, which wants a command, tells its version, and has no command that is called help
 abbrev pub top_app : App
 top_app = on_top
@@ -59,4 +65,4 @@ top_app = on_top
     (new_app (codes "pqd"))
 
 abbrev pub pqd_app : App
-pqd_app = with_subcommand (with_subcommand top_app pipe_app.top) serve_app.top
+pqd_app = with_subcommand (with_subcommand (with_subcommand top_app pipe_app.top) serve_app.top) stats_app.top

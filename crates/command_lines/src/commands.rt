@@ -192,7 +192,7 @@ const PIPE: DescribedCommand<'static> = DescribedCommand {
 };
 
 /// `serve [--clients T] [--records K] [--image FILE] [--journal FILE [--sync WHEN]] [--renew] [--listen ADDRESS] [--port P]
-/// [--workers N] [--connections C] [--idle SECONDS] [--secret FILE]`, and the options of a log
+/// [--metrics PORT] [--workers N] [--connections C] [--idle SECONDS] [--secret FILE]`, and the options of a log
 const SERVE: DescribedCommand<'static> = DescribedCommand {
     name: "serve",
     about: "Answers the requests of connections to a port",
@@ -223,6 +223,11 @@ const SERVE: DescribedCommand<'static> = DescribedCommand {
             help: "The port, 0 to 65535, where 0 lets the system choose [default: 7070]",
         },
         Described {
+            name: "metrics",
+            form: Form::Option("PORT"),
+            help: "The port of this machine at which numbers are told: /metrics, /stats and a page",
+        },
+        Described {
             name: "workers",
             form: Form::Option("N"),
             help: "The threads that serve, 1 to 16 [default: 4]",
@@ -245,7 +250,26 @@ const SERVE: DescribedCommand<'static> = DescribedCommand {
     ],
 };
 
-static COMMANDS: [DescribedCommand<'static>; 2] = [PIPE, SERVE];
+/// `stats [--port P] [--watch]`
+const STATS: DescribedCommand<'static> = DescribedCommand {
+    name: "stats",
+    about: "Prints the numbers that a server tells at its port of numbers",
+    notes: None,
+    takes: &[
+        Described {
+            name: "port",
+            form: Form::Option("P"),
+            help: "The port that the server has for numbers, 1 to 65535 [default: 7071]",
+        },
+        Described {
+            name: "watch",
+            form: Form::Flag,
+            help: "Prints them again each second",
+        },
+    ],
+};
+
+static COMMANDS: [DescribedCommand<'static>; 3] = [PIPE, SERVE, STATS];
 
 /// `pqd` without its commands.
 const PQD: DescribedCommand<'static> = DescribedCommand {
@@ -255,7 +279,7 @@ const PQD: DescribedCommand<'static> = DescribedCommand {
     takes: &[],
 };
 
-/// `pqd pipe`, `pqd serve`
+/// `pqd pipe`, `pqd serve`, `pqd stats`
 pub(crate) fn pqd<'a>(alloc: Global) -> Result<Command<'a>, AllocError>
     ensures app { IfOk result (λ c. app_of c ≡ pqd_app) }
 {

@@ -8,7 +8,7 @@ ghost use Rattle.command_lines.specs.Lines.{IsAsked, Refuses};
 use crate::commands::pqd;
 use clap::error::ErrorKind;
 use clap::{Command, Error};
-use options::{Misfit, Options, asked_in};
+use options::{Asked, Misfit, asked_in};
 use std::alloc::{AllocError, Global};
 use std::convert::AsStr;
 
@@ -35,14 +35,14 @@ fn asked_of<'a, S: AsStr>(
     alloc: Global,
     command: &mut Command<'a>,
     words: &'a [S],
-) -> Result<Options<'a>, Error>
+) -> Result<Asked<'a>, Error>
     requires app { app_of command.old ≡ pqd_app }
     ensures asked { IfOk result (IsAsked (map S.text words.entry.now)) }
     ensures refused { IfErr result (Refuses (map S.text words.entry.now)) }
 {
     let matches = command.try_get_matches_from_mut(words)?;
     match asked_in(&matches) {
-        Ok(options) => Ok(options),
+        Ok(asked) => Ok(asked),
         Err(misfit) => Err(refusal(alloc, command, misfit)),
     }
 }
@@ -51,7 +51,7 @@ fn asked_of<'a, S: AsStr>(
 ///
 /// An error that is no want of memory has the text for the user and the status to end with: 0 where the words ask for
 /// help or the version, and else 2.
-pub fn command_line<'a, S: AsStr>(alloc: Global, words: &'a [S]) -> Result<Options<'a>, Error>
+pub fn command_line<'a, S: AsStr>(alloc: Global, words: &'a [S]) -> Result<Asked<'a>, Error>
     ensures asked { IfOk result (IsAsked (map S.text words.entry.now)) }
     ensures refused { IfErr result (Refuses (map S.text words.entry.now)) }
 {

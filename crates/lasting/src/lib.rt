@@ -4,6 +4,7 @@
 #![tactic(auto)]
 
 mod beginning;
+mod counts;
 mod journaled;
 mod laws;
 mod policy;
@@ -12,6 +13,7 @@ mod settling;
 mod shared_journal;
 
 pub use beginning::first_words;
+pub use counts::JournalCounts;
 pub use journaled::Journaled;
 pub use laws::{
     firsts_are_moments, settled_stands_there, stops_leave_a_moment, stops_leave_what_was_assured,

@@ -93,6 +93,20 @@ impl<J: Naming, S: Storage + Drop> Settler<J, S> {
         self.journaled.policy()
     }
 
+    /// How many bytes the journal has.
+    pub fn size(&self) -> u64
+        ensures { result ≡ self.now.kept.journal.size }
+    {
+        self.journaled.journal().size()
+    }
+
+    /// How many of its bytes were there when all were last kept.
+    pub fn kept(&self) -> u64
+        ensures { result ≡ self.now.kept.journal.kept }
+    {
+        self.journaled.journal().kept()
+    }
+
     /// Whether it has failed for good. Then nothing is settled any more.
     pub fn has_failed(&self) -> bool
         ensures { result ≡ self.now.failed }

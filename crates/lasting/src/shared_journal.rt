@@ -3,6 +3,7 @@
 ghost use Rattle.std.specs.Prelude.{◌≡◌, IfOk, IsSome, OnOk};
 ghost use Rattle.std.specs.Option.{ForSome};
 
+use crate::counts::{Counts, JournalCounts};
 use crate::policy::Policy;
 use crate::settler::Settler;
 use crate::settling::Settling;
@@ -54,10 +55,10 @@ impl<J: Naming + Settling, S: Storage + Drop> Place<J, S> {
         }
     }
 
-    /// Whether whoever is there has failed for good.
-    fn has_failed(&self) -> bool {
+    /// Whoever is there.
+    fn settler(&self) -> &Settler<J, S> {
         match &self.settler {
-            Some(settler) => settler.has_failed(),
+            Some(settler) => settler,
             None => unreachable!(),
         }
     }
@@ -109,6 +110,7 @@ pub struct SharedJournal<'a, J: Naming + Settling, S: Storage + Drop> {
     shared: &'a Shared<J>,
     policy: Policy,
     failed: AtomicBool,
+    counts: Counts,
     /// How many calls that settle have begun.
     tickets: AtomicU64,
     /// This lock is taken before the session's. It is held while the storage works.
@@ -125,6 +127,7 @@ impl<'a, J: Naming + Settling, S: Storage + Drop> SharedJournal<'a, J, S> {
     {
         let policy = settler.policy();
         let failed = AtomicBool::new(settler.has_failed());
+        let counts = Counts::new(settler.size(), settler.kept());
         let place = Mutex::new(Place {
             settler: Some(settler),
             confirmed: 0,
@@ -134,6 +137,7 @@ impl<'a, J: Naming + Settling, S: Storage + Drop> SharedJournal<'a, J, S> {
             shared,
             policy,
             failed,
+            counts,
             tickets: AtomicU64::new(0),
             place,
         }
@@ -175,9 +179,17 @@ impl<'a, J: Naming + Settling, S: Storage + Drop> SharedJournal<'a, J, S> {
         self.failed.load(Ordering::SeqCst)
     }
 
-    /// Says to those who do not have the lock whether the journal has failed for good.
-    fn note(&self, place: &Place<J, S>) {
-        if place.has_failed() {
+    /// What was counted of the journal, as far as it is settled. It waits for nobody.
+    pub fn counts(&self) -> JournalCounts {
+        self.counts.read()
+    }
+
+    /// Says to those who do not have the lock how the journal goes, behind a step that may have failed, and whether it has
+    /// failed for good.
+    fn note(&self, place: &Place<J, S>, failed: bool) {
+        let settler = place.settler();
+        self.counts.note(settler.size(), settler.kept(), failed);
+        if settler.has_failed() {
             self.failed.store(true, Ordering::SeqCst);
         }
     }
@@ -199,7 +211,7 @@ impl<'a, J: Naming + Settling, S: Storage + Drop> SharedJournal<'a, J, S> {
             begun: self.tickets.load(Ordering::SeqCst),
         };
         let settled = place.settle_up_to(rt, self.alloc, self.shared, marked, turn);
-        self.note(&place);
+        self.note(&place, settled.is_err());
         settled
     }
 
@@ -207,7 +219,7 @@ impl<'a, J: Naming + Settling, S: Storage + Drop> SharedJournal<'a, J, S> {
     pub fn keep_up<R: Wait>(&self, rt: &R) -> Result<(), Failed> {
         let mut place = self.locked(rt);
         let kept = place.keep_up(self.alloc);
-        self.note(&place);
+        self.note(&place, kept.is_err());
         kept
     }
 

@@ -8,6 +8,24 @@ use std::net::IpAddr;
 
 /// What `pqd` is asked to do.
 #[derive(Clone, Copy)]
+pub enum Asked<'a> {
+    /// To serve a broker.
+    Serving(Options<'a>),
+    /// To print the numbers of one that another `pqd` serves.
+    Printing(Printing),
+}
+
+/// How numbers are printed.
+#[derive(Clone, Copy)]
+pub struct Printing {
+    /// The port of this machine at which they are told.
+    pub port: u16,
+    /// Whether they are printed again each second.
+    pub watch: bool,
+}
+
+/// How a broker is served.
+#[derive(Clone, Copy)]
 pub struct Options<'a> {
     /// The clients of a queue, from 1 to `words::MAX_CLIENTS`.
     pub clients: u32,
@@ -95,6 +113,8 @@ pub struct Listening<'a> {
     pub address: IpAddr,
     /// 0 lets the system choose.
     pub port: u16,
+    /// The port of this machine alone at which numbers are told, if they are to be.
+    pub metrics: Option<u16>,
     /// The threads that serve, from 1 to `MAX_WORKERS`.
     pub workers: u32,
     /// The connections that are open at most, from 1 to `MAX_CONNECTIONS`.

@@ -10,11 +10,13 @@ mod number;
 mod pqx;
 mod pqx_line;
 
-pub use asked::{FileJournal, Journaling, Listening, LogJournal, Mode, Options, Syncing, Taking};
+pub use asked::{
+    Asked, FileJournal, Journaling, Listening, LogJournal, Mode, Options, Printing, Syncing, Taking,
+};
 pub use limits::{
     DEFAULT_CLIENTS, DEFAULT_CONNECTIONS, DEFAULT_DRAW, DEFAULT_PATIENCE, DEFAULT_PORT,
-    DEFAULT_RECORDS, DEFAULT_WORKERS, MAX_CONNECTIONS, MAX_DRAW, MAX_IDLE, MAX_PATIENCE, MAX_PORT,
-    MAX_WORKERS, limits_are_fixed,
+    DEFAULT_RECORDS, DEFAULT_STATS_PORT, DEFAULT_WORKERS, MAX_CONNECTIONS, MAX_DRAW, MAX_IDLE,
+    MAX_PATIENCE, MAX_PORT, MAX_WORKERS, limits_are_fixed,
 };
 pub use line::asked_in;
 pub use number::Misfit;

@@ -1,7 +1,7 @@
 //! What each option that is a number may be, and what it is where it is not given.
 
 ghost use Rattle.std.specs.Prelude.{◌≡◌};
-ghost use Rattle.options.specs.declared.limits.TheConstants.{DEFAULT_CLIENTS, DEFAULT_RECORDS, DEFAULT_PORT, DEFAULT_WORKERS};
+ghost use Rattle.options.specs.declared.limits.TheConstants.{DEFAULT_CLIENTS, DEFAULT_RECORDS, DEFAULT_PORT, DEFAULT_STATS_PORT, DEFAULT_WORKERS};
 ghost use Rattle.options.specs.declared.limits.TheConstants.{DEFAULT_PATIENCE, MAX_PATIENCE};
 ghost use Rattle.options.specs.declared.limits.TheConstants.{DEFAULT_CONNECTIONS, MAX_CONNECTIONS, MAX_IDLE};
 ghost use Rattle.options.specs.declared.limits.TheConstants.{DEFAULT_DRAW, MAX_DRAW, MAX_POINT, MAX_PORT, MAX_WORKERS};
@@ -17,6 +17,9 @@ pub const DEFAULT_RECORDS: u32 = 256;
 
 /// The port of a server where `--port` is not given.
 pub const DEFAULT_PORT: u32 = 7_070;
+
+/// The port whose numbers `pqd stats` prints where `--port` is not given.
+pub const DEFAULT_STATS_PORT: u32 = 7_071;
 
 /// The greatest port.
 pub const MAX_PORT: u32 = 65_535;
@@ -57,6 +60,7 @@ pub fn limits_are_fixed()
     ensures clients { DEFAULT_CLIENTS ≡ 4 }
     ensures records { DEFAULT_RECORDS ≡ 256 }
     ensures port { (DEFAULT_PORT ≡ 7070) × (MAX_PORT ≡ 65535) }
+    ensures stats { DEFAULT_STATS_PORT ≡ 7071 }
     ensures workers { (DEFAULT_WORKERS ≡ 4) × (MAX_WORKERS ≡ 16) }
     ensures connections { (DEFAULT_CONNECTIONS ≡ 1024) × (MAX_CONNECTIONS ≡ 65536) }
     ensures idle { MAX_IDLE ≡ 86400 }
@@ -87,6 +91,22 @@ pub(crate) const PORT: NumberOption = NumberOption {
     least: 0,
     most: MAX_PORT,
     default: DEFAULT_PORT,
+};
+
+/// `--metrics PORT`, which has no default.
+pub(crate) const METRICS: NumberOption = NumberOption {
+    name: "metrics",
+    least: 0,
+    most: MAX_PORT,
+    default: 0,
+};
+
+/// `--port P` of `stats`
+pub(crate) const STATS_PORT: NumberOption = NumberOption {
+    name: "port",
+    least: 1,
+    most: MAX_PORT,
+    default: DEFAULT_STATS_PORT,
 };
 
 /// `--workers N`

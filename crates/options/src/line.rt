@@ -1,15 +1,16 @@
 //! What a parse of a command line of `pqd` asks.
 
-ghost use Rattle.std.specs.Prelude.{◌≡◌, IfOk, OnErr, Some};
+ghost use Rattle.std.specs.Prelude.{◌≡◌, IfOk, OnErr, OnOk, Some};
 ghost use Rattle.clap.specs.Words.{first_value, found_of, subcommand_rows_of};
-ghost use Rattle.options.specs.Asked.{AllFit, Asks, IdleFits, IsIdleGiven, IsKnown, ListeningFits, ListensBy};
-ghost use Rattle.options.specs.Asked.{CommandAsks, CommandFits, name_in};
-ghost use Rattle.options.specs.Numbers.{given_text};
+ghost use Rattle.options.specs.Asked.{AllFit, Asks, IdleFits, IsIdleGiven, IsKnown, IsPortGiven, ListeningFits, ListensBy};
+ghost use Rattle.options.specs.Numbers.{Fits, given_text};
+ghost use Rattle.options.specs.declared.limits.TheConstants.{MAX_PORT};
+ghost use Rattle.options.specs.Asked.{AsksFor, CommandAsks, CommandFits, FitsAll, PrintingFits, PrintsBy, Serves, name_in};
 
 use crate::address::address;
-use crate::asked::{Listening, Mode, Options};
+use crate::asked::{Asked, Listening, Mode, Options, Printing};
 use crate::journaling::{is_set, journaling};
-use crate::limits::{CLIENTS, CONNECTIONS, IDLE, PORT, RECORDS, WORKERS};
+use crate::limits::{CLIENTS, CONNECTIONS, IDLE, METRICS, PORT, RECORDS, STATS_PORT, WORKERS};
 use crate::number::Misfit;
 use clap::ArgMatches;
 
@@ -24,6 +25,18 @@ fn idle(given: Option<&str>) -> Result<Option<u32>, Misfit>
     }
 }
 
+/// The port at which numbers are told, if one is given.
+fn metrics(given: Option<&str>) -> Result<Option<u16>, Misfit>
+    ensures asked { IfOk result (IsPortGiven (given_text given.entry)) }
+    ensures fits { OnOk result (Fits 0 MAX_PORT (given_text given.entry)) }
+    ensures misfit { OnErr result (¬ (Fits 0 MAX_PORT (given_text given.entry))) }
+{
+    match given {
+        Some(text) => Ok(Some(METRICS.read(Some(text))? as u16)),
+        None => Ok(None),
+    }
+}
+
 /// Where `serve` listens.
 fn listening<'a>(given: &ArgMatches<'a>) -> Result<Listening<'a>, Misfit>
     ensures asked { IfOk result (ListensBy (first_value (found_of given.now))) }
@@ -32,6 +45,7 @@ fn listening<'a>(given: &ArgMatches<'a>) -> Result<Listening<'a>, Misfit>
     Ok(Listening {
         address: address(given.get_str("listen"))?,
         port: PORT.read(given.get_str("port"))? as u16,
+        metrics: metrics(given.get_str("metrics"))?,
         workers: WORKERS.read(given.get_str("workers"))?,
         connections: CONNECTIONS.read(given.get_str("connections"))?,
         idle: idle(given.get_str("idle"))?,
@@ -39,9 +53,21 @@ fn listening<'a>(given: &ArgMatches<'a>) -> Result<Listening<'a>, Misfit>
     })
 }
 
-/// What a command asks with the options that it was given.
+/// What `stats` prints.
+fn printing(given: &ArgMatches<'_>) -> Result<Printing, Misfit>
+    ensures asked { IfOk result (PrintsBy (first_value (found_of given.now))) }
+    ensures misfit { OnErr result (¬ (PrintingFits (first_value (found_of given.now)))) }
+{
+    let port = STATS_PORT.read(given.get_str("port"))?;
+    Ok(Printing {
+        port: port as u16,
+        watch: is_set(given, "watch"),
+    })
+}
+
+/// What a command that serves asks with the options that it was given.
 fn options<'a>(command: &str, given: &ArgMatches<'a>) -> Result<Options<'a>, Misfit>
-    requires known { IsKnown (Some command.now) }
+    requires known { Serves (Some command.now) }
     ensures asked { IfOk result (Asks (Some command.now) (first_value (found_of given.now))) }
     ensures misfit { OnErr result (¬ (AllFit (Some command.now) (first_value (found_of given.now)))) }
 {
@@ -62,8 +88,20 @@ fn options<'a>(command: &str, given: &ArgMatches<'a>) -> Result<Options<'a>, Mis
     })
 }
 
+/// What a command asks with the options that it was given.
+fn asked<'a>(command: &str, given: &ArgMatches<'a>) -> Result<Asked<'a>, Misfit>
+    requires known { IsKnown (Some command.now) }
+    ensures asked { IfOk result (AsksFor (Some command.now) (first_value (found_of given.now))) }
+    ensures misfit { OnErr result (¬ (FitsAll (Some command.now) (first_value (found_of given.now)))) }
+{
+    if command == "stats" {
+        return Ok(Asked::Printing(printing(given)?));
+    }
+    Ok(Asked::Serving(options(command, given)?))
+}
+
 /// What a parse found to be asked.
-pub fn asked_in<'a>(matches: &ArgMatches<'a>) -> Result<Options<'a>, Misfit>
+pub fn asked_in<'a>(matches: &ArgMatches<'a>) -> Result<Asked<'a>, Misfit>
     requires known { IsKnown (name_in (subcommand_rows_of matches.now)) }
     ensures asked { IfOk result (CommandAsks (subcommand_rows_of matches.now)) }
     ensures misfit { OnErr result (¬ (CommandFits (subcommand_rows_of matches.now))) }
@@ -71,5 +109,5 @@ pub fn asked_in<'a>(matches: &ArgMatches<'a>) -> Result<Options<'a>, Misfit>
     let Some((command, given)) = matches.subcommand() else {
         unreachable!();
     };
-    options(command, given)
+    asked(command, given)
 }

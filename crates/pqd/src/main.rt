@@ -1,4 +1,4 @@
-//! A broker that serves standard input, or connections.
+//! A broker that serves standard input, or connections; and the numbers of one that does.
 #![tactic(auto)]
 
 ghost use Rattle.std.specs.Prelude.{◌≡◌, IfOk};
@@ -11,6 +11,8 @@ mod keeping;
 mod logging;
 mod secret;
 mod standby;
+mod stats;
+mod table;
 
 use command_lines::command_line;
 use devices::{CountedReader, CountedWriter};
@@ -20,7 +22,7 @@ use etcd_log::Undone;
 use log::Log;
 use named::Broker;
 use opening::{opened, renewed};
-use options::{Journaling, Listening, Mode, Options};
+use options::{Asked, Journaling, Listening, Mode, Options};
 use server::{Service, net};
 use serving::{Unserved, pipe};
 use std::fs::File;
@@ -40,6 +42,9 @@ enum Fault {
     Refused(Refusal),
     #[error("listen failed")]
     Listen,
+    /// Nobody tells numbers at the port.
+    #[error("no server tells its numbers there")]
+    Untold,
     /// The journal's file is not used.
     #[error("{0}")]
     Journal(journal_store::Fault),
@@ -196,8 +201,12 @@ fn follow<T: Threads + Wait + Net + Log + Clock + Sync>(
 ) -> Result<ExitCode, Fault> {
     let words = command_lines::words(rt)?;
     match command_line(rt.alloc(), &words) {
-        Ok(asked) => {
+        Ok(Asked::Serving(asked)) => {
             serve(threads, rt, asked)?;
+            Ok(ExitCode::SUCCESS)
+        }
+        Ok(Asked::Printing(asked)) => {
+            stats::print(rt, asked)?;
             Ok(ExitCode::SUCCESS)
         }
         Err(error) => Ok(command_lines::explained(rt, &error)?),

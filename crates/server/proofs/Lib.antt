@@ -3,3 +3,4 @@ mod Restarts
 mod Lefts
 mod Held
 mod Pipes
+mod Sights

@@ -1,2 +1,3 @@
 pub mod Restarting
 pub mod Worked
+pub mod Seen

@@ -7,7 +7,7 @@ use std::alloc::{AllocError, Global};
 use std::io;
 use std::net::{Net, TcpStream};
 use std::sync::Wait;
-use std::sync::atomic::{AtomicUsize, Ordering};
+use std::sync::atomic::{AtomicU64, AtomicUsize, Ordering};
 
 /// How many events a worker takes at once.
 const EVENTS: usize = 128;
@@ -25,6 +25,8 @@ pub(crate) struct Inbox {
     waker: Waker,
     /// How many connections the worker was given and has not closed.
     open: AtomicUsize,
+    /// How many replies the worker has sent.
+    replies: AtomicU64,
 }
 
 /// Where the worker of an inbox waits, and finds its connections.
@@ -46,6 +48,7 @@ impl Inbox {
             given,
             waker,
             open: AtomicUsize::new(0),
+            replies: AtomicU64::new(0),
         };
         Ok((
             inbox,
@@ -60,6 +63,16 @@ impl Inbox {
     /// How many connections are open there.
     pub(crate) fn count(&self) -> usize {
         self.open.load(Ordering::SeqCst)
+    }
+
+    /// How many replies were sent there.
+    pub(crate) fn replies(&self) -> u64 {
+        self.replies.load(Ordering::SeqCst)
+    }
+
+    /// The worker has sent so many replies more.
+    pub(crate) fn replied(&self, count: u64) {
+        self.replies.fetch_add(count, Ordering::SeqCst);
     }
 
     /// Hands a connection to the worker.

@@ -12,7 +12,9 @@ mod lasting_pipe;
 mod laws;
 mod listening;
 mod rounds;
+mod seen;
 mod stopping;
+mod telling;
 
 pub use lasting_net::net_lasting;
 pub use lasting_pipe::pipe_lasting;

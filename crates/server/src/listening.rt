@@ -10,7 +10,9 @@ use crate::connections::{BrokerWorker, Desks, InMemory, Worker};
 use crate::ending::{image_left, shareable, shared_seats};
 use crate::inbox::{Inbox, Post};
 use crate::rounds::{Serving, Station, serve_connections};
+use crate::seen::Seen;
 use crate::stopping::Stopping;
+use crate::telling::accept_beside;
 use door::Secret;
 use log::{Log, warn};
 use named::Broker;
@@ -51,6 +53,8 @@ pub struct Entrance<'a> {
     pub idle: Option<u32>,
     /// What the first line of each has to say, if anything.
     pub secret: Option<&'a Secret>,
+    /// Where others come in, who are told the broker's numbers, if any do.
+    pub metrics: Option<&'a TcpListener>,
 }
 
 /// What a connection is told that is one too many.
@@ -118,7 +122,7 @@ fn accept<R: Wait + Clock + Log>(
 }
 
 /// The same, and says at the end that no more are taken.
-fn accept_to_end<R: Wait + Clock + Log>(
+pub(crate) fn accept_to_end<R: Wait + Clock + Log>(
     rt: &R,
     entrance: &Entrance<'_>,
     stopping: &Stopping,
@@ -131,11 +135,8 @@ fn accept_to_end<R: Wait + Clock + Log>(
     }
 }
 
-/// Wakes the thread that takes connections once no more are to be taken, by a connection to its own port.
-fn wake_at_stop<R: Wait + Net + Log>(rt: &R, stopping: &Stopping, address: Option<SocketAddr>) {
-    if !stopping.is_told(rt) {
-        return;
-    }
+/// Wakes the thread that takes connections at this address, by one more.
+pub(crate) fn wake<R: Net + Log>(rt: &R, address: Option<SocketAddr>) {
     let Some(address) = address else {
         warn!(rt; "the next connection is waited for");
         return;
@@ -144,6 +145,13 @@ fn wake_at_stop<R: Wait + Net + Log>(rt: &R, stopping: &Stopping, address: Optio
     let second = Duration::from_secs(WAKE_SECONDS);
     if TcpStream::connect_timeout(rt, &address, second).is_err() {
         warn!(rt; "the next connection is waited for");
+    }
+}
+
+/// Wakes the thread that takes connections once no more are to be taken, by a connection to its own port.
+fn wake_at_stop<R: Wait + Net + Log>(rt: &R, stopping: &Stopping, address: Option<SocketAddr>) {
+    if stopping.is_told(rt) {
+        wake(rt, address);
     }
 }
 
@@ -256,7 +264,7 @@ fn stations_of<'a, W: Worker + Drop, D: Desks<W>, R: Wait>(
 /// have ended. It answers those workers. At an `Err` there was no memory, or the system had no descriptors to wait with.
 pub(crate) fn work<
     W: Worker + Send + Drop,
-    D: Desks<W> + Sync,
+    D: Desks<W> + Seen + Sync,
     R: Threads + Wait + Net + Clock + Log + Sync,
 >(
     rt: &R,
@@ -280,7 +288,7 @@ pub(crate) fn work<
     let address = entrance.listener.local_addr().ok();
     let ((), worked) = join(
         rt,
-        || accept_to_end(rt, entrance, stopping, &inboxes),
+        || accept_beside(rt, alloc, &serving, &inboxes),
         || serve_until_stopped(rt, alloc, &serving, stations, address),
     );
     worked
@@ -348,7 +356,7 @@ fn served<J: Naming + Send + Sync, R: Threads + Wait + Net + Clock + Log + Sync>
 /// is told Full, and closed. Those that come after an accepted stop are closed unserved. It is refused before
 /// any is taken where a call or a creation is under way (Busy), and for want of memory, or of descriptors to wait with
 /// (NoMemory); for want of memory also after all have ended. Where the threads to take connections and to serve them
-/// cannot be made, it does not return.
+/// cannot be made, it does not return. Who connects for numbers is answered by a thread of its own meanwhile.
 pub fn net<R: Threads + Wait + Net + Clock + Log + Sync>(
     rt: &R,
     alloc: Global,

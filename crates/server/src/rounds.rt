@@ -83,6 +83,7 @@ fn turn_of<W: Worker, R: Wait + Log>(
     rt: &R,
     alloc: Global,
     worker: &mut W,
+    inbox: &Inbox,
     connection: Connection,
     welcome: Option<&Welcome>,
 ) -> Option<Connection> {
@@ -97,6 +98,7 @@ fn turn_of<W: Worker, R: Wait + Log>(
     let mut writer = Outgoing::new(&socket, unsent);
     let mut reader = Incoming::new(&socket, part);
     let served = send_and_serve(rt, alloc, worker, &mut reader, &mut writer, welcome);
+    inbox.replied(writer.lines());
     let flow = reader.flow();
     let heard = heard || reader.has_lines();
     let part = reader.into_part();
@@ -129,6 +131,7 @@ fn turn_at_door<'a, W: Worker, R: Wait + Log>(
     rt: &R,
     alloc: Global,
     worker: &mut W,
+    inbox: &Inbox,
     caller: Caller<'a>,
 ) -> Option<Caller<'a>> {
     let Caller {
@@ -140,7 +143,7 @@ fn turn_at_door<'a, W: Worker, R: Wait + Log>(
     } else {
         standing.welcome()
     };
-    let connection = turn_of(rt, alloc, worker, connection, welcome)?;
+    let connection = turn_of(rt, alloc, worker, inbox, connection, welcome)?;
     Some(Caller {
         connection,
         standing,
@@ -232,7 +235,7 @@ impl<'a, W: Worker + Drop> Round<'a, W> {
         let Some(caller) = self.places.get_mut(place).and_then(Option::take) else {
             return;
         };
-        match turn_at_door(rt, alloc, &mut self.worker, caller) {
+        match turn_at_door(rt, alloc, &mut self.worker, self.inbox, caller) {
             Some(caller) => self.come_back(place, caller),
             None => self.leave(place),
         }

@@ -6,12 +6,17 @@ use devices::{Failed, Writer};
 use mio::net::TcpStream;
 use std::io::{ErrorKind, Write};
 
+/// The end of a line.
+const NEWLINE: u8 = b'\n';
+
 /// The writer of a connection for one turn. What its socket does not take for now it keeps.
 #[derive(Drop)]
 pub struct Outgoing<'a> {
     socket: &'a TcpStream,
     unsent: Vec<u8>,
     failures: u64,
+    /// How many lines it has taken.
+    lines: u64,
 }
 
 impl<'a> Outgoing<'a> {
@@ -23,7 +28,13 @@ impl<'a> Outgoing<'a> {
             socket,
             unsent,
             failures: 0,
+            lines: 0,
         }
+    }
+
+    /// How many lines it has taken: as many replies as were made.
+    pub fn lines(&self) -> u64 {
+        self.lines
     }
 
     /// What could not be sent yet.
@@ -80,6 +91,11 @@ fn send(mut socket: &TcpStream, bytes: &[u8]) -> Result<usize, Failed>
     }
 }
 
+/// How many lines end in these bytes.
+fn lines_in(bytes: &[u8]) -> u64 {
+    bytes.iter().filter(|byte| **byte == NEWLINE).count() as u64
+}
+
 /// Of its bytes nothing is known.
 impl Writer for Outgoing<'_> {
     ghost written = { λ _. None };
@@ -90,8 +106,9 @@ impl Writer for Outgoing<'_> {
 
     fn write(&mut self, bytes: &[u8]) -> Result<usize, Failed> {
         let result = self.take(bytes);
-        if result.is_err() {
-            self.failures += 1;
+        match result {
+            Ok(taken) => self.lines = self.lines.saturating_add(lines_in(&bytes[..taken])),
+            Err(_) => self.failures += 1,
         }
         result
     }

@@ -1,5 +1,5 @@
 use Rattle.std.proofs.Common.{map, refl, inl, inr}
-use Rattle.options.specs.Asked.{AllFit, Asks}
+use Rattle.options.specs.Asked.{AsksFor, FitsAll}
 use Rattle.command_lines.specs.Commands.{pqd_app}
 use Rattle.command_lines.specs.Lines.{Refuses}
 use Rattle.command_lines.proofs.ByWords.{faultless, held_by_words, known_met, passed_on, refused}
@@ -19,13 +19,13 @@ asked_in-requires g c = record {
 pub returns-in-Ok-clause-asked : goal.returns-in-Ok-clause-asked
 returns-in-Ok-clause-asked g c = record {
   faultless = faultless pqd_app refl refl _ _ c.requires.app c.in_ok-matches.ensures.kinds;
-  asks = held_by_words pqd_app refl refl (λ command values. Asks command values c.in-Ok.options) _ _ c.in_ok-matches.matches c.requires.app
+  asks = held_by_words pqd_app refl refl (λ command values. AsksFor command values c.in-Ok.asked) _ _ c.in_ok-matches.matches c.requires.app
       c.in_ok-matches.ensures.ok.2 c.in-Ok.ensures.asked;
 }
 
 pub returns-clause-refused : goal.returns-clause-refused
 returns-clause-refused g c =
-    let misfit = held_by_words pqd_app refl refl (λ command values. ¬ (AllFit command values)) _ _ c.in_ok-matches.matches c.requires.app
+    let misfit = held_by_words pqd_app refl refl (λ command values. ¬ (FitsAll command values)) _ _ c.in_ok-matches.matches c.requires.app
     c.in_ok-matches.ensures.ok.2 c.in-Err.ensures.misfit in
     elim c.refusal.ensures [
       | inl memory ↦ inl memory
