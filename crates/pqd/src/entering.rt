@@ -27,7 +27,7 @@ fn listener_at(rt: &HostRuntime, at: SocketAddr) -> Result<TcpListener, Fault> {
 }
 
 /// A port of this machine alone.
-fn here(port: u16) -> SocketAddr {
+pub(crate) fn here(port: u16) -> SocketAddr {
     SocketAddr::from((Ipv4Addr::new(127, 0, 0, 1), port))
 }
 

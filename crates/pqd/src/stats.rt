@@ -1,7 +1,8 @@
 //! Printing the numbers of a server.
 
+use crate::Fault;
+use crate::entering::here;
 use crate::table::table_of;
-use crate::{Fault, here};
 use options::Printing;
 use scraping::ask_stats;
 use serde_json::Value;
