@@ -20,10 +20,10 @@ abbrev pub plain_text : List ℕ → List ℕ → List ℕ → ℕ → List ℕ
 plain_text name kind help value = family_text name kind help ++ (name ++ codes " " ++ decimal value ++ codes "\n")
 
 -- one that may fall, and one that only grows
-abbrev pub gauge_text : List ℕ → List ℕ → ℕ → List ℕ
+unfoldable pub gauge_text : List ℕ → List ℕ → ℕ → List ℕ
 gauge_text name help value = plain_text name (codes "gauge") help value
 
-abbrev pub counter_text : List ℕ → List ℕ → ℕ → List ℕ
+unfoldable pub counter_text : List ℕ → List ℕ → ℕ → List ℕ
 counter_text name help value = plain_text name (codes "counter") help value
 
 abbrev pub flag : Bool → ℕ
@@ -80,7 +80,7 @@ unfoldable pub failed_text : List ℕ → JournalGauges → List ℕ
 failed_text name j = name ++ codes "{sync=\"" ++ keeping_text j.keeping ++ codes "\"} " ++ decimal (flag j.failed)
     ++ codes "\n"
 
-abbrev pub counts_samples : JournalGauges → List ℕ
+unfoldable pub counts_samples : JournalGauges → List ℕ
 counts_samples j = gauge_text (codes "wistaku_journal_bytes") (codes "Bytes of the journal.") j.bytes
     ++ gauge_text (codes "wistaku_journal_kept_bytes") (codes "Bytes that were there when all were last synced.") j.kept
     ++ counter_text (codes "wistaku_journal_batches_total") (codes "Batches that were appended.") j.batches

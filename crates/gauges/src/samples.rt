@@ -19,6 +19,7 @@ fn append_family(text: &mut String, name: &str, kind: &str, help: &str) -> Resul
 }
 
 /// The only sample of its name, which only grows.
+#[tactic(auto, unfolding(crate::specs::Samples::counter_text))]
 fn append_counter(text: &mut String, name: &str, help: &str, value: u64) -> Result<(), AllocError>
     ensures { OnOk result (string_bytes text.new ≡ string_bytes text.old ++ counter_text name.now help.now value) }
 {
@@ -27,6 +28,7 @@ fn append_counter(text: &mut String, name: &str, help: &str, value: u64) -> Resu
 }
 
 /// The only sample of its name, which may fall.
+#[tactic(auto, unfolding(crate::specs::Samples::gauge_text))]
 fn append_gauge(text: &mut String, name: &str, help: &str, value: u64) -> Result<(), AllocError>
     ensures { OnOk result (string_bytes text.new ≡ string_bytes text.old ++ gauge_text name.now help.now value) }
 {
@@ -204,6 +206,7 @@ fn append_failed(text: &mut String, name: &str, journal: &JournalGauges) -> Resu
 }
 
 /// What is counted of a journal.
+#[tactic(auto, unfolding(crate::specs::Samples::counts_samples))]
 fn append_counts(text: &mut String, journal: &JournalGauges) -> Result<(), AllocError>
     ensures { OnOk result (string_bytes text.new ≡ string_bytes text.old ++ counts_samples journal.now) }
 {
