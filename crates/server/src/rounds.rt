@@ -92,11 +92,12 @@ fn turn_of<W: Worker, R: Wait + Log>(
         part,
         unsent,
         paused: _,
+        closing,
         heard,
         ends,
     } = connection;
     let mut writer = Outgoing::new(&socket, unsent);
-    let mut reader = Incoming::new(&socket, part);
+    let mut reader = Incoming::new(&socket, part, closing);
     let served = send_and_serve(rt, alloc, worker, &mut reader, &mut writer, welcome);
     inbox.replied(writer.lines());
     let flow = reader.flow();
@@ -120,6 +121,7 @@ fn turn_of<W: Worker, R: Wait + Log>(
         part,
         unsent,
         paused: is_served && flow == Flow::Paused,
+        closing,
         heard,
         ends,
     })
@@ -230,11 +232,13 @@ impl<'a, W: Worker + Drop> Round<'a, W> {
         }
     }
 
-    /// The connection in a place has its turn, if one is there.
-    fn turn<R: Wait + Log>(&mut self, rt: &R, alloc: Global, place: usize) {
+    /// The connection in a place has its turn, if one is there. The system may have told that its input has an end.
+    fn turn<R: Wait + Log>(&mut self, rt: &R, alloc: Global, place: usize, closing: bool) {
         let Some(caller) = self.places.get_mut(place).and_then(Option::take) else {
             return;
         };
+        let mut caller = caller;
+        caller.connection.closing = caller.connection.closing || closing;
         match turn_at_door(rt, alloc, &mut self.worker, self.inbox, caller) {
             Some(caller) => self.come_back(place, caller),
             None => self.leave(place),
@@ -254,7 +258,7 @@ impl<'a, W: Worker + Drop> Round<'a, W> {
         self.paused = false;
         for place in 0..self.places.len() {
             if self.is_paused(place) {
-                self.turn(rt, alloc, place);
+                self.turn(rt, alloc, place, false);
             }
         }
     }
@@ -348,7 +352,7 @@ pub(crate) fn serve_connections<'a, W: Worker + Drop, D: Desks<W>, R: Wait + Clo
         for event in post.events.iter() {
             let token = event.token().0;
             if token != WAKES {
-                round.turn(rt, alloc, token - 1);
+                round.turn(rt, alloc, token - 1, event.is_read_closed());
             }
         }
         if paused {
