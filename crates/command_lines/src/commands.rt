@@ -230,7 +230,7 @@ const SERVE: DescribedCommand<'static> = DescribedCommand {
         Described {
             name: "workers",
             form: Form::Option("N"),
-            help: "The threads that serve, 1 to 16 [default: 4]",
+            help: "The threads that serve, 1 to 16 [default: 1, and 8 where each reply waits for the journal]",
         },
         Described {
             name: "connections",

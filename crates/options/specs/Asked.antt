@@ -6,16 +6,21 @@ use Rattle.std.specs.declared.net.ip_addr.IpAddr.TheVariants.{V4, V6}
 use Rattle.std.specs.Net.Addr.{ipv4_octets}
 use Rattle.words.specs.declared.limits.TheConstants.{MAX_CLIENTS, MAX_RECORDS}
 use Rattle.clap.specs.Words.{Row, Text, first_of}
-use Rattle.options.specs.declared.limits.TheConstants.{DEFAULT_CLIENTS, DEFAULT_RECORDS, DEFAULT_PORT, DEFAULT_STATS_PORT, DEFAULT_WORKERS, MAX_PORT, MAX_WORKERS}
+use Rattle.options.specs.declared.limits.TheConstants.{DEFAULT_CLIENTS, DEFAULT_RECORDS, DEFAULT_PORT, DEFAULT_STATS_PORT, MAX_PORT, MAX_WORKERS}
+use Rattle.options.specs.declared.limits.TheConstants.{DEFAULT_WAITING_WORKERS, DEFAULT_WORKERS}
 use Rattle.options.specs.declared.limits.TheConstants.{DEFAULT_CONNECTIONS, MAX_CONNECTIONS, MAX_IDLE}
 use Rattle.options.specs.Numbers.{Fits, decimal_value, given_text, number_of}
 use Rattle.options.specs.declared.asked.Asked.{Asked}
 use Rattle.options.specs.declared.asked.Asked.TheVariants.{Printing as printing_asked, Serving}
+use Rattle.options.specs.declared.asked.Journaling.{Journaling}
+use Rattle.options.specs.declared.asked.Journaling.TheVariants.{InFile, InLog}
 use Rattle.options.specs.declared.asked.Options.{Options}
 use Rattle.options.specs.declared.asked.Printing.{Printing}
 use Rattle.options.specs.declared.asked.Listening.{Listening}
 use Rattle.options.specs.declared.asked.Mode.{Mode}
 use Rattle.options.specs.declared.asked.Mode.TheVariants.{Pipe, Serve}
+use Rattle.options.specs.declared.asked.Syncing.{Syncing}
+use Rattle.options.specs.declared.asked.Syncing.TheVariants.{Always, EachSecond, Never}
 use Rattle.options.specs.Journals.{JournalFits, JournalsBy}
 
 -- the name of the command that a parse met, with what its options were given
@@ -77,22 +82,34 @@ pub record AllFit (command : Option Text) (given : Text → Option Text) : Type 
   pub journal : JournalFits given
   pub listening : command ≡ Some (codes "serve") → ListeningFits given
 
+-- how many workers a server has where no number is given: several where each reply waits until its journal is kept
+abbrev pub workers_for : Syncing → ℕ
+workers_for Always = DEFAULT_WAITING_WORKERS
+workers_for EachSecond = DEFAULT_WORKERS
+workers_for Never = DEFAULT_WORKERS
+
+abbrev pub workers_with : Option Journaling → ℕ
+workers_with None = DEFAULT_WORKERS
+workers_with (Some (InFile j)) = workers_for j.syncing
+workers_with (Some (InLog j)) = DEFAULT_WAITING_WORKERS
+
 -- a server listens where its options say, tells numbers at the port that they say, and has as many workers; it serves as
 -- many connections, closes those over which no line comes for so long, and has the secret of the file
-pub record ListensBy (given : Text → Option Text) (listening : Listening) : Type 0 where
+pub record ListensBy (journal : Option Journaling) (given : Text → Option Text) (listening : Listening) : Type 0 where
   pub fit : ListeningFits given
   pub address : IsAddressGiven (given (codes "listen")) listening.address
   pub port : listening.port ≡ number_of DEFAULT_PORT (given (codes "port"))
   pub metrics : IsPortGiven (given (codes "metrics")) listening.metrics
-  pub workers : listening.workers ≡ number_of DEFAULT_WORKERS (given (codes "workers"))
+  pub workers : listening.workers ≡ number_of (workers_with journal) (given (codes "workers"))
   pub connections : listening.connections ≡ number_of DEFAULT_CONNECTIONS (given (codes "connections"))
   pub idle : IsIdleGiven (given (codes "idle")) listening.idle
   pub secret : given_text listening.secret ≡ given (codes "secret")
 
 -- the mode is that of the command, with what its options say
-abbrev pub IsModeOf : Option Text → (Text → Option Text) → Mode → Type 0
-IsModeOf command given Pipe = command ≡ Some (codes "pipe")
-IsModeOf command given (Serve listening) = (command ≡ Some (codes "serve")) × ListensBy given listening
+abbrev pub IsModeOf : Option Text → Option Journaling → (Text → Option Text) → Mode → Type 0
+IsModeOf command journal given Pipe = command ≡ Some (codes "pipe")
+IsModeOf command journal given (Serve listening) =
+    (command ≡ Some (codes "serve")) × ListensBy journal given listening
 
 -- the command and the values of its options ask this
 pub record Asks (command : Option Text) (given : Text → Option Text) (o : Options) : Type 0 where
@@ -102,7 +119,7 @@ pub record Asks (command : Option Text) (given : Text → Option Text) (o : Opti
   pub image : given_text o.image ≡ given (codes "image")
   pub journal : JournalsBy given o.journal
   pub renew : IsTrue o.renew ↔ (given (codes "renew") ≡ Some (codes "true"))
-  pub mode : IsModeOf command given o.mode
+  pub mode : IsModeOf command o.journal given o.mode
 
 -- what the command that prints numbers was given fits
 abbrev pub PrintingFits : (Text → Option Text) → Type 0

@@ -1,7 +1,8 @@
 //! What each option that is a number may be, and what it is where it is not given.
 
 ghost use Rattle.std.specs.Prelude.{◌≡◌};
-ghost use Rattle.options.specs.declared.limits.TheConstants.{DEFAULT_CLIENTS, DEFAULT_RECORDS, DEFAULT_PORT, DEFAULT_STATS_PORT, DEFAULT_WORKERS};
+ghost use Rattle.options.specs.declared.limits.TheConstants.{DEFAULT_CLIENTS, DEFAULT_RECORDS, DEFAULT_PORT, DEFAULT_STATS_PORT};
+ghost use Rattle.options.specs.declared.limits.TheConstants.{DEFAULT_WAITING_WORKERS, DEFAULT_WORKERS};
 ghost use Rattle.options.specs.declared.limits.TheConstants.{DEFAULT_PATIENCE, MAX_PATIENCE};
 ghost use Rattle.options.specs.declared.limits.TheConstants.{DEFAULT_CONNECTIONS, MAX_CONNECTIONS, MAX_IDLE};
 ghost use Rattle.options.specs.declared.limits.TheConstants.{DEFAULT_DRAW, MAX_DRAW, MAX_POINT, MAX_PORT, MAX_WORKERS};
@@ -24,8 +25,11 @@ pub const DEFAULT_STATS_PORT: u32 = 7_071;
 /// The greatest port.
 pub const MAX_PORT: u32 = 65_535;
 
-/// The workers of a server where `--workers` is not given.
-pub const DEFAULT_WORKERS: u32 = 4;
+/// The workers of a server where `--workers` is not given. Each call is made under one lock, for which others would wait.
+pub const DEFAULT_WORKERS: u32 = 1;
+
+/// The same where each reply waits until the journal is kept: several wait for one sync together.
+pub const DEFAULT_WAITING_WORKERS: u32 = 8;
 
 /// The most workers of a server.
 pub const MAX_WORKERS: u32 = 16;
@@ -61,7 +65,7 @@ pub fn limits_are_fixed()
     ensures records { DEFAULT_RECORDS ≡ 256 }
     ensures port { (DEFAULT_PORT ≡ 7070) × (MAX_PORT ≡ 65535) }
     ensures stats { DEFAULT_STATS_PORT ≡ 7071 }
-    ensures workers { (DEFAULT_WORKERS ≡ 4) × (MAX_WORKERS ≡ 16) }
+    ensures workers { (DEFAULT_WORKERS ≡ 1) × (DEFAULT_WAITING_WORKERS ≡ 8) × (MAX_WORKERS ≡ 16) }
     ensures connections { (DEFAULT_CONNECTIONS ≡ 1024) × (MAX_CONNECTIONS ≡ 65536) }
     ensures idle { MAX_IDLE ≡ 86400 }
     ensures patience { (DEFAULT_PATIENCE ≡ 60) × (MAX_PATIENCE ≡ 86400) }
@@ -115,6 +119,14 @@ pub(crate) const WORKERS: NumberOption = NumberOption {
     least: 1,
     most: MAX_WORKERS,
     default: DEFAULT_WORKERS,
+};
+
+/// `--workers N` where each reply waits until the journal is kept
+pub(crate) const WAITING_WORKERS: NumberOption = NumberOption {
+    name: "workers",
+    least: 1,
+    most: MAX_WORKERS,
+    default: DEFAULT_WAITING_WORKERS,
 };
 
 /// `--connections C`

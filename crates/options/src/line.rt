@@ -4,14 +4,14 @@ ghost use Rattle.std.specs.Prelude.{◌≡◌, IfOk, OnErr, OnOk, Some};
 ghost use Rattle.clap.specs.Words.{first_value, found_of, subcommand_rows_of};
 ghost use Rattle.options.specs.Asked.{AllFit, Asks, IdleFits, IsIdleGiven, IsKnown, IsPortGiven, ListeningFits, ListensBy};
 ghost use Rattle.options.specs.Numbers.{Fits, given_text};
-ghost use Rattle.options.specs.declared.limits.TheConstants.{MAX_PORT};
-ghost use Rattle.options.specs.Asked.{AsksFor, CommandAsks, CommandFits, FitsAll, PrintingFits, PrintsBy, Serves, name_in};
+ghost use Rattle.options.specs.declared.limits.TheConstants.{MAX_PORT, MAX_WORKERS};
+ghost use Rattle.options.specs.Asked.{AsksFor, CommandAsks, CommandFits, FitsAll, PrintingFits, PrintsBy, Serves, name_in, workers_with};
 
 use crate::address::address;
-use crate::asked::{Asked, Listening, Mode, Options, Printing};
+use crate::asked::{Asked, Journaling, Listening, Mode, Options, Printing, Syncing};
 use crate::journaling::{is_set, journaling};
-use crate::limits::{CLIENTS, CONNECTIONS, IDLE, METRICS, PORT, RECORDS, STATS_PORT, WORKERS};
-use crate::number::Misfit;
+use crate::limits::{CLIENTS, CONNECTIONS, IDLE, METRICS, PORT, RECORDS, STATS_PORT, WAITING_WORKERS, WORKERS};
+use crate::number::{Misfit, NumberOption};
 use clap::ArgMatches;
 
 /// For how many seconds no line comes over a connection before it is closed, if that is given.
@@ -37,16 +37,34 @@ fn metrics(given: Option<&str>) -> Result<Option<u16>, Misfit>
     }
 }
 
-/// Where `serve` listens.
-fn listening<'a>(given: &ArgMatches<'a>) -> Result<Listening<'a>, Misfit>
-    ensures asked { IfOk result (ListensBy (first_value (found_of given.now))) }
+/// The option `--workers` of a server with this journal.
+fn workers_with(journal: &Option<Journaling<'_>>) -> NumberOption
+    ensures range { (result.least ≡ 1) × (result.most ≡ MAX_WORKERS) }
+    ensures default { result.default ≡ workers_with journal.now }
+{
+    match journal {
+        None => WORKERS,
+        Some(Journaling::InLog(_)) => WAITING_WORKERS,
+        Some(Journaling::InFile(file)) => match file.syncing {
+            Syncing::Always => WAITING_WORKERS,
+            Syncing::EachSecond | Syncing::Never => WORKERS,
+        },
+    }
+}
+
+/// Where `serve` listens, with this journal.
+fn listening<'a>(
+    given: &ArgMatches<'a>,
+    journal: &Option<Journaling<'_>>,
+) -> Result<Listening<'a>, Misfit>
+    ensures asked { IfOk result (ListensBy journal.now (first_value (found_of given.now))) }
     ensures misfit { OnErr result (¬ (ListeningFits (first_value (found_of given.now)))) }
 {
     Ok(Listening {
         address: address(given.get_str("listen"))?,
         port: PORT.read(given.get_str("port"))? as u16,
         metrics: metrics(given.get_str("metrics"))?,
-        workers: WORKERS.read(given.get_str("workers"))?,
+        workers: workers_with(journal).read(given.get_str("workers"))?,
         connections: CONNECTIONS.read(given.get_str("connections"))?,
         idle: idle(given.get_str("idle"))?,
         secret: given.get_str("secret"),
@@ -75,7 +93,7 @@ fn options<'a>(command: &str, given: &ArgMatches<'a>) -> Result<Options<'a>, Mis
     let records = RECORDS.read(given.get_str("records"))?;
     let journal = journaling(given)?;
     let mode = match command {
-        "serve" => Mode::Serve(listening(given)?),
+        "serve" => Mode::Serve(listening(given, &journal)?),
         _ => Mode::Pipe,
     };
     Ok(Options {

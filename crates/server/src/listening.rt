@@ -160,7 +160,7 @@ fn wake_at_stop<R: Wait + Net + Log>(rt: &R, stopping: &Stopping, address: Optio
 fn serve_all<W: Worker + Send + Drop, D: Desks<W> + Sync, R: Threads + Wait + Clock + Log + Sync>(
     rt: &R,
     alloc: Global,
-    serving: &Serving<'_, D>,
+    serving: &Serving<'_, '_, D>,
     stations: Vec<Station<'_, W>>,
 ) -> Result<Vec<W>, AllocError>
     ensures { IfOk result (λ workers. vec_len workers ≡ vec_len stations.entry) }
@@ -182,7 +182,7 @@ fn serve_keeping<
 >(
     rt: &R,
     alloc: Global,
-    serving: &Serving<'_, D>,
+    serving: &Serving<'_, '_, D>,
     stations: Vec<Station<'_, W>>,
 ) -> Result<Vec<W>, AllocError>
     ensures { IfOk result (λ workers. vec_len workers ≡ vec_len stations.entry) }
@@ -203,7 +203,7 @@ fn serve_until_stopped<
 >(
     rt: &R,
     alloc: Global,
-    serving: &Serving<'_, D>,
+    serving: &Serving<'_, '_, D>,
     stations: Vec<Station<'_, W>>,
     address: Option<SocketAddr>,
 ) -> Result<Vec<W>, AllocError>
@@ -283,7 +283,7 @@ pub(crate) fn work<
     let serving = Serving {
         desks,
         stopping,
-        entrance,
+        entrance: *entrance,
     };
     let address = entrance.listener.local_addr().ok();
     let ((), worked) = join(

@@ -7,7 +7,7 @@ use crate::greeting::{Caller, at_door};
 use crate::inbox::{Inbox, Post, WAKES};
 use crate::listening::Entrance;
 use crate::stopping::Stopping;
-use door::Welcome;
+use door::{Standing, Welcome};
 use engine::Failure;
 use log::{Log, warn};
 use mio::{Interest, Token};
@@ -23,11 +23,11 @@ const REST_MILLIS: u64 = 10;
 
 /// What the workers share: their desks, whether more connections are taken, and which of them are served.
 #[derive(Drop)]
-pub(crate) struct Serving<'a, D> {
+pub(crate) struct Serving<'a, 's, D> {
     pub(crate) desks: &'a D,
     /// Once it is said, connections that are not handed over yet will not be served.
     pub(crate) stopping: &'a Stopping,
-    pub(crate) entrance: &'a Entrance<'a>,
+    pub(crate) entrance: Entrance<'s>,
 }
 
 /// A worker, and where it is handed its connections and waits for them.
@@ -40,10 +40,10 @@ pub(crate) struct Station<'a, W> {
 
 /// A worker and its connections.
 #[derive(Drop)]
-struct Round<'a, W> {
+struct Round<'a, 's, W> {
     worker: W,
     inbox: &'a Inbox,
-    places: Vec<Option<Caller<'a>>>,
+    places: Vec<Option<Caller<'s>>>,
     /// Whether any of them is paused: it goes on before the worker waits.
     paused: bool,
     /// Over which of them no line came for long, where such are closed.
@@ -92,11 +92,12 @@ fn turn_of<W: Worker, R: Wait + Log>(
         part,
         unsent,
         paused: _,
+        closing,
         heard,
         ends,
     } = connection;
     let mut writer = Outgoing::new(&socket, unsent);
-    let mut reader = Incoming::new(&socket, part);
+    let mut reader = Incoming::new(&socket, part, closing);
     let served = send_and_serve(rt, alloc, worker, &mut reader, &mut writer, welcome);
     inbox.replied(writer.lines());
     let flow = reader.flow();
@@ -120,9 +121,18 @@ fn turn_of<W: Worker, R: Wait + Log>(
         part,
         unsent,
         paused: is_served && flow == Flow::Paused,
+        closing,
         heard,
         ends,
     })
+}
+
+/// That what comes in is to be served, if the connection may come to a desk, and does not end.
+fn welcome_of<'b>(standing: &'b Standing<'_>, ends: bool) -> Option<&'b Welcome> {
+    if ends {
+        return None;
+    }
+    standing.welcome()
 }
 
 /// A caller has its turn: first at the door, if it stands there, and then inside. It is none afterwards if its connection
@@ -138,11 +148,7 @@ fn turn_at_door<'a, W: Worker, R: Wait + Log>(
         connection,
         standing,
     } = at_door(rt, alloc, caller)?;
-    let welcome = if connection.ends {
-        None
-    } else {
-        standing.welcome()
-    };
+    let welcome = welcome_of(&standing, connection.ends);
     let connection = turn_of(rt, alloc, worker, inbox, connection, welcome)?;
     Some(Caller {
         connection,
@@ -150,7 +156,7 @@ fn turn_at_door<'a, W: Worker, R: Wait + Log>(
     })
 }
 
-impl<'a, W: Worker + Drop> Round<'a, W> {
+impl<'a, 's, W: Worker + Drop> Round<'a, 's, W> {
     /// Whether no connection is open, and no more come.
     fn is_over(&self, post: &Post, stopping: &Stopping) -> bool {
         stopping.is_closed() && post.taken.is_empty() && self.places.iter().all(Option::is_none)
@@ -165,7 +171,7 @@ impl<'a, W: Worker + Drop> Round<'a, W> {
     }
 
     /// A caller is put in a place, where it waits for its turns.
-    fn put<R: Log>(&mut self, rt: &R, post: &Post, caller: Caller<'a>) {
+    fn put<R: Log>(&mut self, rt: &R, post: &Post, caller: Caller<'s>) {
         let mut caller = caller;
         let place = match self.places.iter().position(Option::is_none) {
             Some(place) => place,
@@ -195,7 +201,7 @@ impl<'a, W: Worker + Drop> Round<'a, W> {
         rt: &R,
         alloc: Global,
         post: &Post,
-        serving: &Serving<'a, D>,
+        serving: &Serving<'_, 's, D>,
     ) {
         for connection in post.taken.try_iter(rt) {
             if serving.stopping.is_said() {
@@ -217,7 +223,7 @@ impl<'a, W: Worker + Drop> Round<'a, W> {
     }
 
     /// A caller comes back to its place from its turn; its connection may have been heard.
-    fn come_back(&mut self, place: usize, caller: Caller<'a>) {
+    fn come_back(&mut self, place: usize, caller: Caller<'s>) {
         let mut caller = caller;
         self.paused = self.paused || caller.connection.paused;
         if caller.connection.heard {
@@ -230,11 +236,13 @@ impl<'a, W: Worker + Drop> Round<'a, W> {
         }
     }
 
-    /// The connection in a place has its turn, if one is there.
-    fn turn<R: Wait + Log>(&mut self, rt: &R, alloc: Global, place: usize) {
+    /// The connection in a place has its turn, if one is there. The system may have told that its input has an end.
+    fn turn<R: Wait + Log>(&mut self, rt: &R, alloc: Global, place: usize, closing: bool) {
         let Some(caller) = self.places.get_mut(place).and_then(Option::take) else {
             return;
         };
+        let mut caller = caller;
+        caller.connection.closing = caller.connection.closing || closing;
         match turn_at_door(rt, alloc, &mut self.worker, self.inbox, caller) {
             Some(caller) => self.come_back(place, caller),
             None => self.leave(place),
@@ -254,7 +262,7 @@ impl<'a, W: Worker + Drop> Round<'a, W> {
         self.paused = false;
         for place in 0..self.places.len() {
             if self.is_paused(place) {
-                self.turn(rt, alloc, place);
+                self.turn(rt, alloc, place, false);
             }
         }
     }
@@ -319,11 +327,11 @@ fn wait<R: Wait + Clock + Log>(rt: &R, post: &mut Post, most: Option<Duration>) 
 /// Serves the connections that are handed over, those that are ready in their turns, until all have ended and no more
 /// come. Those that come after an accepted stop are closed unserved, and so are those that come once what was done lasts
 /// no more. It answers the worker that served them, which is the one that it was given: it can make no other.
-pub(crate) fn serve_connections<'a, W: Worker + Drop, D: Desks<W>, R: Wait + Clock + Log>(
+pub(crate) fn serve_connections<W: Worker + Drop, D: Desks<W>, R: Wait + Clock + Log>(
     rt: &R,
     alloc: Global,
-    serving: &Serving<'a, D>,
-    station: Station<'a, W>,
+    serving: &Serving<'_, '_, D>,
+    station: Station<'_, W>,
 ) -> W {
     let Station {
         worker,
@@ -348,7 +356,7 @@ pub(crate) fn serve_connections<'a, W: Worker + Drop, D: Desks<W>, R: Wait + Clo
         for event in post.events.iter() {
             let token = event.token().0;
             if token != WAKES {
-                round.turn(rt, alloc, token - 1);
+                round.turn(rt, alloc, token - 1, event.is_read_closed());
             }
         }
         if paused {

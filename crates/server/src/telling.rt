@@ -52,11 +52,11 @@ impl<'a, D: Seen> Watched for Watch<'a, D> {
 /// Takes the connections that are served, as [`accept_to_end`] does, and lets go then who tells numbers.
 fn accept_and_let_go<D, R: Wait + Net + Clock + Log>(
     rt: &R,
-    serving: &Serving<'_, D>,
+    serving: &Serving<'_, '_, D>,
     metrics: &TcpListener,
     inboxes: &[Inbox],
 ) {
-    accept_to_end(rt, serving.entrance, serving.stopping, inboxes);
+    accept_to_end(rt, &serving.entrance, serving.stopping, inboxes);
     wake(rt, metrics.local_addr().ok());
 }
 
@@ -64,11 +64,11 @@ fn accept_and_let_go<D, R: Wait + Net + Clock + Log>(
 pub(crate) fn accept_beside<D: Seen + Sync, R: Threads + Wait + Net + Clock + Log + Sync>(
     rt: &R,
     alloc: Global,
-    serving: &Serving<'_, D>,
+    serving: &Serving<'_, '_, D>,
     inboxes: &[Inbox],
 ) {
     let Some(metrics) = serving.entrance.metrics else {
-        return accept_to_end(rt, serving.entrance, serving.stopping, inboxes);
+        return accept_to_end(rt, &serving.entrance, serving.stopping, inboxes);
     };
     let watch = Watch {
         desks: serving.desks,

@@ -13,6 +13,8 @@ pub struct Connection {
     pub unsent: Vec<u8>,
     /// Whether more of its input may be there, and others have their turn first.
     pub paused: bool,
+    /// Whether the system has told that its input has an end.
+    pub closing: bool,
     /// Whether a line came over it in its last turn.
     pub heard: bool,
     /// Whether it ends once all is sent.
@@ -27,6 +29,7 @@ impl Connection {
             part: Vec::new(alloc),
             unsent: Vec::new(alloc),
             paused: false,
+            closing: false,
             heard: false,
             ends: false,
         }

@@ -38,6 +38,10 @@ pub struct Incoming<'a> {
     socket: &'a TcpStream,
     /// The beginning of a line whose end did not come yet.
     part: Vec<u8>,
+    /// Whether the system has told that the input has an end.
+    closing: bool,
+    /// Whether the last read found less than there was room for, and so all that was there: the system tells of more.
+    drained: bool,
     flow: Flow,
     reads: u32,
     has_lines: bool,
@@ -45,13 +49,16 @@ pub struct Incoming<'a> {
 }
 
 impl<'a> Incoming<'a> {
-    /// The reader, with the beginning of a line that had come before.
-    pub fn new(socket: &'a TcpStream, part: Vec<u8>) -> Self
+    /// The reader, with the beginning of a line that had come before. Where the system has told that the input has an end,
+    /// it reads up to there, and else no more than there is.
+    pub fn new(socket: &'a TcpStream, part: Vec<u8>, closing: bool) -> Self
         ensures { result.failures ≡ 0 }
     {
         Incoming {
             socket,
             part,
+            closing,
+            drained: false,
             flow: Flow::Goes,
             reads: 0,
             has_lines: false,
@@ -108,6 +115,7 @@ impl<'a> Incoming<'a> {
         if held >= buffer.len() {
             return Err(Failed);
         }
+        let room = buffer.len() - held;
         buffer[..held].copy_from_slice(&self.part);
         match self.socket.read(&mut buffer[held..]) {
             Ok(0) => {
@@ -115,7 +123,11 @@ impl<'a> Incoming<'a> {
                 self.part.clear();
                 Ok(held)
             }
-            Ok(n) => self.keep_behind(&buffer[..held + n]),
+            Ok(n) => {
+                // Of an end that had come by then nothing more is told, so it is read.
+                self.drained = n < room && !self.closing;
+                self.keep_behind(&buffer[..held + n])
+            }
             Err(error) => match error.kind() {
                 ErrorKind::WouldBlock => {
                     self.flow = Flow::Waits;
@@ -133,6 +145,10 @@ impl<'a> Incoming<'a> {
         ensures failures { self.new.failures ≡ self.old.failures }
     {
         for _ in self.reads..READS {
+            if self.drained {
+                self.flow = Flow::Waits;
+                return Err(Failed);
+            }
             self.reads = self.reads.saturating_add(1);
             let read = self.read_once(buffer);
             if read != Ok(0) || self.flow != Flow::Goes {
