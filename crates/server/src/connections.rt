@@ -10,7 +10,7 @@ use desk::BrokerDesk;
 use devices::MAX_FAILURES;
 use engine::Failure;
 use journal_file::Storage;
-use lasting::{Settling, SharedJournal};
+use lasting::{Policy, Settling, SharedJournal};
 use log::{Log, warn};
 use seating::Seating;
 use serving::{LastingDesk, StoppingDesk};
@@ -18,6 +18,7 @@ use sockets::{Incoming, Outgoing};
 use std::alloc::{AllocError, Global};
 use std::marker::Model;
 use std::sync::Wait;
+use std::time::Clock;
 use words::Refusal;
 use workers::{Assured, Marked, Naming, Shared};
 
@@ -39,6 +40,10 @@ pub(crate) trait Worker {
 pub(crate) trait Desks<W: Worker> {
     /// A worker who has served nothing. At an `Err` there was no memory for the desk.
     fn worker<R: Wait>(&self, rt: &R, alloc: Global) -> Result<W, AllocError>;
+
+    /// Sees to it beside the workers that what is done lasts, until all connections have ended. It returns at once where
+    /// nothing has to be done beside them.
+    fn keep<R: Wait + Clock>(&self, rt: &R);
 
     /// Whether what is done lasts no more, though it is to.
     fn has_failed(&self) -> bool;
@@ -116,6 +121,8 @@ impl<'a, J: Naming> Desks<BrokerWorker<'a, J>> for InMemory<'a, J> {
         })
     }
 
+    fn keep<R: Wait + Clock>(&self, _: &R) {}
+
     fn has_failed(&self) -> bool {
         false
     }
@@ -186,6 +193,18 @@ impl<'a, J: Naming + Settling, S: Storage + Drop> Desks<LastingWorker<'a, J, S>>
         Ok(LastingWorker {
             desk: StoppingDesk::new(desk, self.stopping.said()),
         })
+    }
+
+    /// Where the journal fails for good, no more connections are taken.
+    fn keep<R: Wait + Clock>(&self, rt: &R) {
+        if self.journal.policy() != Policy::EachSecond {
+            return;
+        }
+        self.journal.keep_each_second(rt, self.stopping.ended());
+        if self.journal.has_failed() {
+            self.stopping.say();
+            self.stopping.tell(rt);
+        }
     }
 
     fn has_failed(&self) -> bool {

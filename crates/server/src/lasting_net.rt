@@ -12,7 +12,7 @@ use crate::lasting_broker::LastingBroker;
 use crate::listening::{Service, work};
 use crate::stopping::Stopping;
 use journal_file::Storage;
-use lasting::{Policy, Settler, Settling, SharedJournal};
+use lasting::{Settler, Settling, SharedJournal};
 use log::Log;
 use named::Broker;
 use seating::Seating;
@@ -21,66 +21,10 @@ use std::alloc::{AllocError, Global};
 use std::marker::Brand;
 use std::net::{Net, TcpListener};
 use std::sync::Wait;
-use std::thread::{Threads, join};
+use std::thread::Threads;
 use std::time::Clock;
 use words::Refusal;
 use workers::{Assured, Naming};
-
-/// Keeps the journal each second until all connections have ended. Where it fails for good, no more are taken.
-fn keep_beside<J: Naming + Settling, S: Storage + Drop, R: Wait + Clock>(
-    rt: &R,
-    journal: &SharedJournal<'_, J, S>,
-    stopping: &Stopping,
-) {
-    journal.keep_each_second(rt, stopping.ended());
-    if journal.has_failed() {
-        stopping.say();
-        stopping.tell(rt);
-    }
-}
-
-/// Takes connections and serves them, as [`work`] does, and says when all have ended.
-fn work_to_end<
-    'a,
-    J: Naming + Settling + Send + Sync,
-    S: Storage + Drop + Send,
-    R: Threads + Wait + Net + Clock + Log + Sync,
->(
-    rt: &R,
-    alloc: Global,
-    desks: &InJournal<'a, J, S>,
-    workers: u32,
-    listener: &TcpListener,
-) -> Result<Vec<LastingWorker<'a, J, S>>, AllocError>
-    ensures { IfOk result (λ worked. vec_len worked ≡ workers) }
-{
-    let worked = work(rt, alloc, desks, desks.stopping, workers, listener);
-    desks.stopping.end();
-    worked
-}
-
-/// Takes connections and serves them, as [`work`] does, and keeps the journal each second until all have ended.
-fn work_keeping<
-    'a,
-    J: Naming + Settling + Send + Sync,
-    S: Storage + Drop + Send,
-    R: Threads + Wait + Net + Clock + Log + Sync,
->(
-    rt: &R,
-    alloc: Global,
-    desks: &InJournal<'a, J, S>,
-    workers: u32,
-    listener: &TcpListener,
-) -> Result<Vec<LastingWorker<'a, J, S>>, AllocError>
-    ensures { IfOk result (λ worked. vec_len worked ≡ workers) }
-{
-    let ((), worked) = join(
-        rt,
-        || keep_beside(rt, desks.journal, desks.stopping),
-        || work_to_end(rt, alloc, desks, workers, listener),
-    );
-    worked
-}
 
 /// The last token of each worker that has one.
 fn tokens_of<J: Naming + Settling, S: Storage + Drop>(
@@ -99,9 +43,8 @@ fn tokens_of<J: Naming + Settling, S: Storage + Drop>(
     Ok(tokens)
 }
 
-/// Takes connections and serves them, as [`work`] does, and beside that keeps the journal, where it is to be kept each
-/// second. It answers the tokens of those who served. At an `Err` there was no memory.
-fn work_beside<
+/// Takes connections and serves them, as [`work`] does, and answers the tokens of those who served.
+fn serve_seats<
     J: Naming + Settling + Send + Sync,
     S: Storage + Drop + Send,
     R: Threads + Wait + Net + Clock + Log + Sync,
@@ -121,12 +64,8 @@ fn work_beside<
         seats,
         stopping: &stopping,
     };
-    if journal.policy() != Policy::EachSecond {
-        let worked = work(rt, alloc, &desks, &stopping, workers, listener)?;
-        return tokens_of(alloc, worked);
-    }
-    let worked = work_keeping(rt, alloc, &desks, workers, listener)?;
-    tokens_of(alloc, worked)
+    let workers = work(rt, alloc, &desks, &stopping, workers, listener)?;
+    tokens_of(alloc, workers)
 }
 
 /// Hears tokens: the journal assures the session of each, and its last hand-on goes on from it.
@@ -160,7 +99,7 @@ fn serve_to_end<
     ensures policy { IfOk result (λ r. r.0.policy ≡ J.policy) }
     ensures settled { IfOk result (λ r. AreKnown settled_told J.clients J.first workers r.1.items) }
 {
-    let tokens = work_beside(rt, alloc, seats, &journal, workers, listener)?;
+    let tokens = serve_seats(rt, alloc, seats, &journal, workers, listener)?;
     // Where that fails for good, nothing is left.
     let _ = journal.settle_and_keep(rt);
     Ok((journal.into_settler(), tokens))

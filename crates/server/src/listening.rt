@@ -138,8 +138,8 @@ fn wake_at_stop<R: Wait + Net + Log>(rt: &R, stopping: &Stopping, address: Optio
     }
 }
 
-/// The workers serve the connections that are taken, until no more are, and are answered. At an `Err` there was no
-/// memory for their threads.
+/// The workers serve the connections that are taken, until no more are, and are answered; that they have is said. At an
+/// `Err` there was no memory for their threads.
 fn serve_all<W: Worker + Send + Drop, D: Desks<W> + Sync, R: Threads + Wait + Clock + Log + Sync>(
     rt: &R,
     alloc: Global,
@@ -148,11 +148,34 @@ fn serve_all<W: Worker + Send + Drop, D: Desks<W> + Sync, R: Threads + Wait + Cl
 ) -> Result<Vec<W>, AllocError>
     ensures { IfOk result (λ workers. vec_len workers ≡ vec_len stations.entry) }
 {
-    map_vec(
+    let workers = map_vec(
         rt,
         stations,
         &|station: Station<'_, W>| { serve_connections(rt, alloc, serving, station) },
-    )
+    );
+    serving.stopping.end();
+    workers
+}
+
+/// The same, and beside them it is seen to that what they do lasts.
+fn serve_keeping<
+    W: Worker + Send + Drop,
+    D: Desks<W> + Sync,
+    R: Threads + Wait + Clock + Log + Sync,
+>(
+    rt: &R,
+    alloc: Global,
+    serving: &Serving<'_, D>,
+    stations: Vec<Station<'_, W>>,
+) -> Result<Vec<W>, AllocError>
+    ensures { IfOk result (λ workers. vec_len workers ≡ vec_len stations.entry) }
+{
+    let (worked, ()) = join(
+        rt,
+        || serve_all(rt, alloc, serving, stations),
+        || serving.desks.keep(rt),
+    );
+    worked
 }
 
 /// The same, and beside them this thread waits for a stop.
@@ -171,7 +194,7 @@ fn serve_until_stopped<
 {
     let (worked, ()) = join(
         rt,
-        || serve_all(rt, alloc, serving, stations),
+        || serve_keeping(rt, alloc, serving, stations),
         || wake_at_stop(rt, serving.stopping, address),
     );
     worked
