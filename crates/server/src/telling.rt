@@ -1,9 +1,10 @@
 //! Telling the numbers of a broker that is served, beside the thread that takes its connections.
 
 use crate::inbox::Inbox;
-use crate::listening::{accept_to_end, wake};
+use crate::listening::{Entrance, accept_to_end, wake};
 use crate::rounds::Serving;
 use crate::seen::Seen;
+use crate::stopping::Stopping;
 use gauges::Gauges;
 use log::Log;
 use scraping::{Watched, answer_scrapes};
@@ -50,13 +51,14 @@ impl<'a, D: Seen> Watched for Watch<'a, D> {
 }
 
 /// Takes the connections that are served, as [`accept_to_end`] does, and lets go then who tells numbers.
-fn accept_and_let_go<D, R: Wait + Net + Clock + Log>(
+fn accept_and_let_go<R: Wait + Net + Clock + Log>(
     rt: &R,
-    serving: &Serving<'_, '_, D>,
+    entrance: &Entrance<'_>,
+    stopping: &Stopping,
     metrics: &TcpListener,
     inboxes: &[Inbox],
 ) {
-    accept_to_end(rt, &serving.entrance, serving.stopping, inboxes);
+    accept_to_end(rt, entrance, stopping, inboxes);
     wake(rt, metrics.local_addr().ok());
 }
 
@@ -83,12 +85,14 @@ pub(crate) fn accept_beside<D: Seen + Sync, R: Threads + Wait + Net + Clock + Lo
     serving: &Serving<'_, '_, D>,
     inboxes: &[Inbox],
 ) {
-    let Some(metrics) = serving.entrance.metrics else {
-        return accept_to_end(rt, &serving.entrance, serving.stopping, inboxes);
+    let entrance = &serving.entrance;
+    let stopping = serving.stopping;
+    let Some(metrics) = entrance.metrics else {
+        return accept_to_end(rt, entrance, stopping, inboxes);
     };
     let ((), ()) = join(
         rt,
-        || accept_and_let_go(rt, serving, metrics, inboxes),
         || tell(rt, alloc, serving, metrics, inboxes),
+        || accept_and_let_go(rt, entrance, stopping, metrics, inboxes),
     );
 }
