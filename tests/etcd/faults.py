@@ -18,6 +18,8 @@ import engine
 from engine import Fate
 from journal_story import STORY, Broker, Wrong, require, resend
 
+# Of a start on a log that is there: behind the question whose it is, the one for its tail, and the taking.
+FIRST_READ = 3
 LANES = min(len(os.sched_getaffinity(0)), 4)
 # Where the answers to a start are cut: most are no longer. Those of pieces are, and are cut at their ends.
 FIRST_BYTES, LAST_BYTES = 240, 40
@@ -156,6 +158,21 @@ def moved():
             played_to(broker, at * third, (at + 1) * third if at == 1 else len(STORY))
 
 
+def read_while_taken():
+    """A server waits for a piece of the log that it took, and another one takes the log, puts its pieces anew and removes
+    the old ones. The first one says whose the log is, and not that it is bad."""
+    with Log() as log:
+        played_to(Broker(log.journal), 0, len(STORY) - 1)
+        log.fates.begin(at_exchange(FIRST_READ, Fate("unheard")))
+        first = Broker(log.journal)
+        require(log.fates.reached.wait(10), "it did not read")
+        second = Broker(log.journal)
+        resend(second, len(STORY) - 1)
+        status, said = first.end()
+        require((status, said) == (1, "pqd: 34 TakenOver\n"), f"status {status}", said)
+        ended(second)
+
+
 class Caller:
     """Puts and takes of one client, one after another, in a queue where nothing else is."""
 
@@ -252,6 +269,7 @@ def cases():
     for chunk in (0, 3):
         yield f"each answer in two pieces, in chunks of {chunk}", lambda it=chunk: at_each_turn(slow_at(it), Caller.call)
     yield "a journal is moved to a log and back", moved
+    yield "a log is read while another server takes it", read_while_taken
     yield "odd answers", lambda: at_each_turn(odd, Caller.call, len(ODD))
     yield "odd answers to starts", lambda: starting([lambda turn, it=it: odd(it) for it in range(len(ODD))])
     for chunk, apart in (65_536, 7), (0, 1):

@@ -20,12 +20,15 @@ ENDS_WITHIN = 90
 
 
 def is_stopped(process):
-    """Whether no thread of a process runs any more, which may be some time behind the signal."""
-    states = []
+    """Whether no thread of a process runs any more, which may be some time behind the signal. One that has ended is
+    none to stop."""
+    states = set()
     for task in os.listdir(f"/proc/{process}/task"):
         with open(f"/proc/{process}/task/{task}/stat", encoding="utf-8") as it:
-            states.append(it.read().rpartition(")")[2].split()[0])
-    return set(states) == {"T"}
+            states.add(it.read().rpartition(")")[2].split()[0])
+    if states & {"Z", "X"}:
+        raise ProcessLookupError(process)
+    return states == {"T"}
 
 
 def asked(port, request):
@@ -157,7 +160,7 @@ class Servers:
         try:
             getattr(self, kind.replace(" ", "_"))(server, draws)
             self.counts[kind] += 1
-        except (ProcessLookupError, ConnectionError):
+        except (ProcessLookupError, FileNotFoundError, ConnectionError):
             # It has ended by itself meanwhile.
             pass
 

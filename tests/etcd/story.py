@@ -106,9 +106,8 @@ def explained(pqx, load, folder):
 class Harms:
     """What happens, in a drawn order in which each kind comes before any comes again."""
 
-    def __init__(self, kinds, harm, draws, until):
-        self.kinds, self.harm, self.draws, self.until = kinds, harm, draws, until
-        self.failures = []
+    def __init__(self, kinds, harm, draws, until, failures):
+        self.kinds, self.harm, self.draws, self.until, self.failures = kinds, harm, draws, until, failures
         self.thread = threading.Thread(target=self.work)
         self.thread.start()
 
@@ -125,12 +124,12 @@ class Harms:
 
 def harmed(all_servers, place, load, seconds, seed):
     """For so long servers and members are harmed. What failed of that."""
-    begun, said = time.monotonic(), 0
+    begun, said, failures = time.monotonic(), 0, []
 
     def is_over():
-        return time.monotonic() - begun >= seconds or bool(load.failures)
+        return time.monotonic() - begun >= seconds or bool(load.failures or failures)
     kinds = ((servers.HARMS, all_servers.harm), (place.harms, place.harm))
-    harms = [Harms(list(names), harm, random.Random(seed + at), is_over)
+    harms = [Harms(list(names), harm, random.Random(seed + at), is_over, failures)
              for at, (names, harm) in enumerate(kinds) if names]
     while not is_over():
         time.sleep(0.2)
@@ -139,11 +138,10 @@ def harmed(all_servers, place, load, seconds, seed):
             print(f"{said * SAYS_EACH} s: {len(load.put)} puts; {all_servers.said()}; {place.said()}", flush=True)
     for it in harms:
         it.thread.join()
-    return [failure for it in harms for failure in it.failures]
+    return failures
 
 
-def played(pqd, pqx, place, seconds, seed, folder):
-    all_servers = servers.Servers(pqd, place.journal, folder, CLIENTS + 1)
+def played(all_servers, pqx, place, seconds, seed, folder):
     with Broker(all_servers.addresses(), client=0, patience=PATIENCE) as broker:
         broker.log("jobs", create=True)
     # While nobody calls, nothing that an owner of the past appends is refused, so a question alone can find out.
@@ -155,7 +153,6 @@ def played(pqd, pqx, place, seconds, seed, folder):
     load.end()
     load.drain()
     all_servers.harm("paused", random.Random(seed))
-    all_servers.end()
     found = differences(load)
     status, verdict = explained(pqx, load, folder)
     failures += load.failures + all_servers.unfair
@@ -196,7 +193,11 @@ def main(pqd, pqx, kind, seconds="15", seed="1"):
     with tempfile.TemporaryDirectory() as folder:
         place = Plain(int(seed)) if kind == "plain" else members.Members(folder)
         try:
-            return played(pqd, pqx, place, float(seconds), int(seed), folder)
+            all_servers = servers.Servers(pqd, place.journal, folder, CLIENTS + 1)
+            try:
+                return played(all_servers, pqx, place, float(seconds), int(seed), folder)
+            finally:
+                all_servers.end()
         finally:
             place.end()
 

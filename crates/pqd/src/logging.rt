@@ -136,15 +136,37 @@ fn kept_in<X: Exchange + Drop>(
     Ok(Kept { broker, journaling })
 }
 
+/// The same of this log, asked for so many seconds where no answer comes. Who takes the log next removes its pieces once
+/// he has put them anew, also while they are read here: then it is said that the log is his.
+fn kept_of<'a>(
+    rt: &'a HostRuntime,
+    asked: &Options<'_>,
+    log: &Wanted<'a>,
+    seconds: u64,
+    owner: &str,
+) -> Result<Kept<EtcdStore<HttpExchange<'a>>>, Fault>
+    ensures uncalled { IfOk result (λ kept. IsUncalled kept.broker) }
+    ensures found { IfOk result (λ kept. GoesOnFromText asked.now kept.journaling.storage.text kept.broker) }
+    ensures policy { IfOk result (λ kept. kept.journaling.policy ≡ Always) }
+{
+    let exchange = log.exchange(rt, seconds)?;
+    match kept_in(rt, asked, exchange, owner) {
+        Ok(kept) => Ok(kept),
+        Err(Fault::BadLog) => Err(log.reason(rt, owner.as_bytes(), Fault::BadLog)),
+        Err(fault) => Err(fault),
+    }
+}
+
 /// Serves standard input to standard output. The image that it leaves.
 fn pipe_logged<T: Threads + Wait + Clock + Sync>(
     threads: &T,
     rt: &HostRuntime,
     asked: &Options<'_>,
-    exchange: HttpExchange<'_>,
-    owner: &str,
+    log: &Wanted<'_>,
+    patience: u64,
 ) -> Result<Vec<u8>, Fault> {
-    let kept = kept_in(rt, asked, exchange, owner)?;
+    let owner = owner_name(rt, "pipe")?;
+    let kept = kept_of(rt, asked, log, patience, &owner)?;
     serve_input(threads, rt, kept)
 }
 
@@ -161,7 +183,9 @@ fn server_name(
         return Err(Fault::Refused(Refusal::NoMemory));
     };
     if address.ip().is_unspecified() {
-        let said = eprintln!(rt; "pqd: nobody is found at {place}: --announce says where others find this server");
+        let said = eprintln!(rt;
+            "pqd: nobody is found at {place}: --announce says where others find this server"
+        );
         if said.is_err() {
             return Err(Fault::Refused(Refusal::WriteFailed));
         }
@@ -181,8 +205,7 @@ fn serve_logged<T: Threads + Wait + Net + Log + Clock + Sync>(
     // Whoever stands by finds the port taken before the log is, and so does not take it meanwhile.
     let bound = bound(rt, at)?;
     let owner = server_name(rt, journal, bound.address)?;
-    let exchange = log.exchange(rt, u64::from(journal.patience))?;
-    let kept = kept_in(rt, asked, exchange, &owner)?;
+    let kept = kept_of(rt, asked, log, u64::from(journal.patience), &owner)?;
     bound.tell(rt)?;
     match serve_connections(threads, rt, service_of(at, asked), kept, &bound.entrance()) {
         Ok(image) => Ok(image),
@@ -202,10 +225,11 @@ pub(crate) fn serve<T: Threads + Wait + Net + Log + Clock + Sync>(
         return Err(Fault::Place);
     }
     let log = log_of(rt, journal.address)?;
-    let mut exchange = log.exchange(rt, u64::from(journal.patience))?;
+    let patience = u64::from(journal.patience);
+    let mut exchange = log.exchange(rt, patience)?;
     wait_for(rt, &mut exchange, journal.taking)?;
     match asked.mode {
-        Mode::Pipe => pipe_logged(threads, rt, asked, exchange, &owner_name(rt, "pipe")?),
+        Mode::Pipe => pipe_logged(threads, rt, asked, &log, patience),
         Mode::Serve(at) => serve_logged(threads, rt, asked, &log, journal, at),
     }
 }

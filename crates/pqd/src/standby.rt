@@ -25,10 +25,7 @@ fn place_of(owner: &[u8]) -> Option<&str> {
 }
 
 /// Where the owner of the log is to be found, if it has one who is.
-fn owner_of<X: Exchange>(
-    rt: &HostRuntime,
-    exchange: &mut X,
-) -> Result<Option<String>, Fault> {
+fn owner_of<X: Exchange>(rt: &HostRuntime, exchange: &mut X) -> Result<Option<String>, Fault> {
     let Some(text) = ask_tail(exchange)? else {
         return Ok(None);
     };

@@ -60,6 +60,22 @@ fn accept_and_let_go<D, R: Wait + Net + Clock + Log>(
     wake(rt, metrics.local_addr().ok());
 }
 
+/// Answers who asks for numbers, until no more connections are served.
+fn tell<D: Seen, R: Wait + Clock + Log>(
+    rt: &R,
+    alloc: Global,
+    serving: &Serving<'_, '_, D>,
+    metrics: &TcpListener,
+    inboxes: &[Inbox],
+) {
+    let watch = Watch {
+        desks: serving.desks,
+        inboxes,
+        since: Instant::now(rt).ok(),
+    };
+    answer_scrapes(rt, alloc, &watch, metrics, serving.stopping.said());
+}
+
 /// Takes the connections that are served, as [`accept_to_end`] does, and beside that answers who asks for numbers.
 pub(crate) fn accept_beside<D: Seen + Sync, R: Threads + Wait + Net + Clock + Log + Sync>(
     rt: &R,
@@ -70,14 +86,9 @@ pub(crate) fn accept_beside<D: Seen + Sync, R: Threads + Wait + Net + Clock + Lo
     let Some(metrics) = serving.entrance.metrics else {
         return accept_to_end(rt, &serving.entrance, serving.stopping, inboxes);
     };
-    let watch = Watch {
-        desks: serving.desks,
-        inboxes,
-        since: Instant::now(rt).ok(),
-    };
     let ((), ()) = join(
         rt,
         || accept_and_let_go(rt, serving, metrics, inboxes),
-        || answer_scrapes(rt, alloc, &watch, metrics, serving.stopping.said()),
+        || tell(rt, alloc, serving, metrics, inboxes),
     );
 }
