@@ -213,11 +213,31 @@ def slow(server):
     expect("behind it", server.get("/stats")[0], 200)
 
 
+def table(server):
+    """What `pqd stats` prints, once and again."""
+    words = [PQD, "stats", "--port", str(server.metrics)]
+    ran = subprocess.run(words, capture_output=True, text=True, timeout=20)
+    expect("pqd stats", (ran.returncode, ran.stderr), (0, ""))
+    rows = [line.split() for line in ran.stdout.splitlines()]
+    stats = server.stats()
+    expect("pqd stats: the server", [row for row in rows[:6] if row[0] != "up"], [
+        ["state", "ready"], ["connections", "1"], ["workers", "3"], ["replies", str(stats["replies"])], ["journal", "none"]])
+    expect("pqd stats: queues", rows[7:9], [
+        ["queue", "kind", "items", "clients", "records"], ["jobs", "log", "4", "2", "8"]])
+    with subprocess.Popen([*words, "--watch"], stdout=subprocess.PIPE, text=True) as watching:
+        lines = [watching.stdout.readline() for _ in range(25)]
+        watching.kill()
+    expect("pqd stats --watch", sum(line.startswith("state ") for line in lines) >= 2, True)
+    ran = subprocess.run([PQD, "stats", "--port", str(server.port)], capture_output=True, text=True, timeout=20)
+    expect("pqd stats at another port", (ran.returncode, ran.stderr), (1, "pqd: no server tells its numbers there\n"))
+
+
 def in_memory():
     server = Server("--clients", "2", "--records", "8", "--workers", "3")
     numbers(server)
     refused(server)
     page(server)
+    table(server)
     slow(server)
     silent = server.connect(server.metrics)
     status, said = server.stop()

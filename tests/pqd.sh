@@ -41,13 +41,14 @@ try help 0 --help < /dev/null
 try short-help 0 -h < /dev/null
 try pipe-help 0 pipe --help < /dev/null
 try serve-help 0 serve --help < /dev/null
+try stats-help 0 stats --help < /dev/null
 try version 0 --version < /dev/null
 try short-version 0 -V < /dev/null
 # A fault, and how the command is used: TEXT USAGE WORD..
 bad_option() {
     bad_line "$pqd" "$@" < /dev/null
 }
-bad_option "'pqd' requires a subcommand but one was not provided"$'\n  [subcommands: pipe, serve]' 'pqd <COMMAND>'
+bad_option "'pqd' requires a subcommand but one was not provided"$'\n  [subcommands: pipe, serve, stats]' 'pqd <COMMAND>'
 bad_option "unrecognized subcommand ''" 'pqd <COMMAND>' ''
 bad_option "unrecognized subcommand 'walk'" 'pqd <COMMAND>' walk
 bad_option "unrecognized subcommand 'tube'" 'pqd <COMMAND>' tube
@@ -88,6 +89,11 @@ misfits workers 1 16 0 17 ''
 misfits connections 1 65536 0 65537 -1 ''
 misfits idle 1 86400 0 86401 1.5 ''
 bad_option "the option '--clients' takes a whole number from 1 to 16" 'pqd <COMMAND>' pipe --clients 0
+for port in 0 65536 -1 x ''; do
+    bad_option "the option '--port' takes a whole number from 1 to 65535" 'pqd <COMMAND>' stats "--port=$port"
+done
+bad_option "unexpected argument '--clients' found" 'pqd stats [OPTIONS]' stats --clients 1
+bad_option "unexpected argument '--watch' found" 'pqd serve [OPTIONS]' serve --watch
 bad_option "the option '--records' takes a whole number from 1 to 4096" 'pqd <COMMAND>' pipe --records 5000
 for when in '' secondly Always 1; do
     bad_option "the option '--sync' takes always, second or never" 'pqd <COMMAND>' serve --journal tests "--sync=$when"

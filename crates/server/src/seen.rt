@@ -1,7 +1,6 @@
 //! What is seen of a broker that is served.
 
 ghost use Rattle.std.specs.Prelude.{◌≡◌, IfOk};
-ghost use Rattle.std.specs.Option.{ForSome};
 ghost use Rattle.workers.specs.Moments.{GoesOnLater};
 ghost use Rattle.server.specs.Seen.{AreHeldSince, HoldsItems, keeping_of};
 
