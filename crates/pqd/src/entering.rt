@@ -59,7 +59,9 @@ impl<'a> Bound<'a> {
     fn tell_guests(&self, rt: &HostRuntime) -> Result<(), Fault> {
         let address = self.address;
         let said = match &self.secret {
-            Some(_) => eprintln!(rt; "pqd: whoever says the secret at {address} is served: nothing is encrypted"),
+            Some(_) => eprintln!(rt;
+                "pqd: whoever says the secret at {address} is served: nothing is encrypted"
+            ),
             None if self.asked.address.is_loopback() => Ok(()),
             None => eprintln!(rt; "pqd: whoever reaches {address} is served: there is no password"),
         };

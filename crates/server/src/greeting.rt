@@ -91,11 +91,7 @@ fn greeted<'a, R: Log>(
 
 /// The first line of a connection is heard, where it stands before the door and was not answered yet. It is none
 /// afterwards if the connection has ended.
-pub(crate) fn at_door<'a, R: Log>(
-    rt: &R,
-    alloc: Global,
-    caller: Caller<'a>,
-) -> Option<Caller<'a>> {
+pub(crate) fn at_door<'a, R: Log>(rt: &R, alloc: Global, caller: Caller<'a>) -> Option<Caller<'a>> {
     let Caller {
         connection,
         standing,
