@@ -91,7 +91,7 @@ class Bench:
 
     def served(self, journal, load):
         """Pairs a second and the median latency in us of a server that is begun for this, and what was counted within."""
-        words = [self.pqd, "serve", "--port", "0", "--clients", "16", "--records", "4096", "--workers", "8", *journal]
+        words = [self.pqd, "serve", "--port", "0", "--clients", str(load[0]), "--records", "4096", "--workers", "8", *journal]
         server = subprocess.Popen(words, stdout=subprocess.PIPE, text=True)
         try:
             port = server.stdout.readline().rsplit(":", 1)[1].strip()

@@ -1,15 +1,28 @@
 """Ports of the loopback."""
+import random
 import socket
 import threading
+
+# Below those that the system gives to whoever wants any: a port stays free while nobody listens there for a while.
+LOW, HIGH = 10_000, 32_000
+
+
+def is_free(port):
+    try:
+        socket.create_server(("127.0.0.1", port)).close()
+        return True
+    except OSError:
+        return False
 
 
 def free_ports(count):
     """Ports that nobody uses."""
-    listeners = [socket.create_server(("127.0.0.1", 0)) for _ in range(count)]
-    ports = [it.getsockname()[1] for it in listeners]
-    for it in listeners:
-        it.close()
-    return ports
+    found = []
+    while len(found) < count:
+        port = random.randrange(LOW, HIGH)
+        if port not in found and is_free(port):
+            found.append(port)
+    return found
 
 
 class Port:

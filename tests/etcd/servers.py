@@ -52,15 +52,18 @@ class Server:
 
     def __init__(self, words, port, place, said):
         self.port, self.place, self.said = port, place, said
-        self.serves, self.is_killed = threading.Event(), False
+        self.serves, self.is_killed, self.is_paused = threading.Event(), False, False
         with open(said, "wb") as it:
             self.process = subprocess.Popen(words, stdout=subprocess.PIPE, stderr=it)
 
-    def wait_to_serve(self, when):
-        """Waits until it says that it listens, and calls then; not if it ends before."""
+    def wait_to_serve(self):
+        """Waits until it says that it listens; not if it ends before."""
         if self.process.stdout.readline().startswith(b"listening"):
             self.serves.set()
-            when(self)
+
+    def is_there(self):
+        """Whether it serves, for all that is known here."""
+        return self.serves.is_set() and not self.is_paused and self.process.poll() is None
 
     def kill(self):
         self.is_killed = True
@@ -84,8 +87,7 @@ class Servers:
         self.answered_late = self.questions = self.starts = 0
         # What of those that ended by themselves each said last, and how often.
         self.ends, self.unfair = {}, []
-        self.lock, self.owner, self.changed = threading.RLock(), None, threading.Condition()
-        self.is_ended, self.at = False, {}
+        self.lock, self.is_ended, self.at = threading.RLock(), False, {}
         for place in range(PLACES):
             self.start(place)
         self.watcher = threading.Thread(target=self.watch, daemon=True)
@@ -105,22 +107,19 @@ class Servers:
         self.starts += 1
         server = Server(words, port, place, f"{self.folder}/said{self.starts}")
         self.at[place] = server
-        threading.Thread(target=server.wait_to_serve, args=(self.owned,), daemon=True).start()
+        threading.Thread(target=server.wait_to_serve, daemon=True).start()
         return server
-
-    def owned(self, server):
-        with self.changed:
-            self.owner = server
-            self.changed.notify_all()
 
     def other_than(self, server):
         """Waits until another one serves than this, and answers which."""
-        def serves():
-            return self.owner is not server and self.owner is not None and self.owner.process.poll() is None
-        with self.changed:
-            if not self.changed.wait_for(serves, ENDS_WITHIN * 4):
-                raise RuntimeError("nobody takes the log")
-            return self.owner
+        until = time.monotonic() + 4 * ENDS_WITHIN
+        while time.monotonic() < until:
+            with self.lock:
+                found = [it for it in self.at.values() if it is not server and it.is_there()]
+            if found:
+                return found[-1]
+            time.sleep(0.02)
+        raise RuntimeError("nobody takes the log: " + "; ".join(it.reason() for it in self.at.values()))
 
     def watch(self):
         """Each that ended begins again."""
@@ -161,8 +160,8 @@ class Servers:
             getattr(self, kind.replace(" ", "_"))(server, draws)
             self.counts[kind] += 1
         except (ProcessLookupError, FileNotFoundError, ConnectionError):
-            # It has ended by itself meanwhile.
-            pass
+            # It has ended by itself meanwhile, or else it goes on as one of the others.
+            server.is_paused = False
 
     def killed(self, server, _):
         server.kill()
@@ -182,12 +181,15 @@ class Servers:
 
     def paused(self, server, _):
         """It is paused, another one takes the log, and it wakes up: it may answer nothing, and ends."""
+        server.is_paused = True
         os.kill(server.process.pid, signal.SIGSTOP)
-        while not is_stopped(server.process.pid):
-            time.sleep(0.001)
-        late = [asked(server.port, request) for request in QUESTIONS]
-        self.take_elsewhere(server)
-        os.kill(server.process.pid, signal.SIGCONT)
+        try:
+            while not is_stopped(server.process.pid):
+                time.sleep(0.001)
+            late = [asked(server.port, request) for request in QUESTIONS]
+            self.take_elsewhere(server)
+        finally:
+            os.kill(server.process.pid, signal.SIGCONT)
         self.answered_late += sum(heard(connection) != b"" for connection in late)
         self.questions += len(late)
         try:

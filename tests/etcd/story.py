@@ -50,6 +50,7 @@ class Load:
                     self.act(client, queue, draws)
         except Exception as error:
             self.failures.append(f"client {client}: {type(error).__name__}: {error}")
+            print(self.failures[-1], flush=True)
 
     def act(self, client, queue, draws):
         if draws.random() < 0.5:
@@ -120,6 +121,7 @@ class Harms:
                 self.harm(left.pop(), self.draws)
         except Exception as error:
             self.failures.append(f"{type(error).__name__}: {error}")
+            print(self.failures[-1], flush=True)
 
 
 def harmed(all_servers, place, load, seconds, seed):
@@ -160,7 +162,7 @@ def played(all_servers, pqx, place, seconds, seed, folder):
           ", ".join(f"{name} {count}" for name, count in found.items()))
     print(all_servers.said(), place.said(), sep="\n")
     print("pqx check:", *verdict)
-    print(*failures, sep="\n", end="\n" if failures else "")
+    print(*all_servers.unfair, sep="\n", end="\n" if all_servers.unfair else "")
     return 1 if any(found.values()) or status or all_servers.answered_late or failures else 0
 
 
