@@ -20,7 +20,7 @@ use seating::Seating;
 use std::alloc::{AllocError, Global};
 use std::io::{self, Write};
 use std::marker::Brand;
-use std::net::{Net, SocketAddr, TcpListener, TcpStream};
+use std::net::{Net, TcpListener, TcpStream};
 use std::sync::Wait;
 use std::thread::{Threads, join, map_vec, sleep};
 use std::time::{Clock, Duration};
@@ -135,9 +135,9 @@ pub(crate) fn accept_to_end<R: Wait + Clock + Log>(
     }
 }
 
-/// Wakes the thread that takes connections at this address, by one more.
-pub(crate) fn wake<R: Net + Log>(rt: &R, address: Option<SocketAddr>) {
-    let Some(address) = address else {
+/// Wakes the thread that takes connections from a listener, by one more.
+fn wake<R: Net + Log>(rt: &R, listener: &TcpListener) {
+    let Ok(address) = listener.local_addr() else {
         warn!(rt; "the next connection is waited for");
         return;
     };
@@ -148,10 +148,14 @@ pub(crate) fn wake<R: Net + Log>(rt: &R, address: Option<SocketAddr>) {
     }
 }
 
-/// Wakes the thread that takes connections once no more are to be taken, by a connection to its own port.
-fn wake_at_stop<R: Wait + Net + Log>(rt: &R, stopping: &Stopping, address: Option<SocketAddr>) {
-    if stopping.is_told(rt) {
-        wake(rt, address);
+/// Wakes the threads that take connections once no more are to be taken, by a connection to their own ports.
+fn wake_at_stop<R: Wait + Net + Log>(rt: &R, stopping: &Stopping, entrance: &Entrance<'_>) {
+    if !stopping.is_told(rt) {
+        return;
+    }
+    wake(rt, entrance.listener);
+    if let Some(metrics) = entrance.metrics {
+        wake(rt, metrics);
     }
 }
 
@@ -205,14 +209,13 @@ fn serve_until_stopped<
     alloc: Global,
     serving: &Serving<'_, '_, D>,
     stations: Vec<Station<'_, W>>,
-    address: Option<SocketAddr>,
 ) -> Result<Vec<W>, AllocError>
     ensures { IfOk result (λ workers. vec_len workers ≡ vec_len stations.entry) }
 {
     let (worked, ()) = join(
         rt,
         || serve_keeping(rt, alloc, serving, stations),
-        || wake_at_stop(rt, serving.stopping, address),
+        || wake_at_stop(rt, serving.stopping, &serving.entrance),
     );
     worked
 }
@@ -285,11 +288,10 @@ pub(crate) fn work<
         stopping,
         entrance: *entrance,
     };
-    let address = entrance.listener.local_addr().ok();
     let ((), worked) = join(
         rt,
         || accept_beside(rt, alloc, &serving, &inboxes),
-        || serve_until_stopped(rt, alloc, &serving, stations, address),
+        || serve_until_stopped(rt, alloc, &serving, stations),
     );
     worked
 }

@@ -1,15 +1,14 @@
 //! Telling the numbers of a broker that is served, beside the thread that takes its connections.
 
 use crate::inbox::Inbox;
-use crate::listening::{Entrance, accept_to_end, wake};
+use crate::listening::accept_to_end;
 use crate::rounds::Serving;
 use crate::seen::Seen;
-use crate::stopping::Stopping;
 use gauges::Gauges;
 use log::Log;
 use scraping::{Watched, answer_scrapes};
 use std::alloc::{AllocError, Global};
-use std::net::{Net, TcpListener};
+use std::net::TcpListener;
 use std::sync::Wait;
 use std::thread::{Threads, join};
 use std::time::{Clock, Instant};
@@ -50,18 +49,6 @@ impl<'a, D: Seen> Watched for Watch<'a, D> {
     }
 }
 
-/// Takes the connections that are served, as [`accept_to_end`] does, and lets go then who tells numbers.
-fn accept_and_let_go<R: Wait + Net + Clock + Log>(
-    rt: &R,
-    entrance: &Entrance<'_>,
-    stopping: &Stopping,
-    metrics: &TcpListener,
-    inboxes: &[Inbox],
-) {
-    accept_to_end(rt, entrance, stopping, inboxes);
-    wake(rt, metrics.local_addr().ok());
-}
-
 /// Answers who asks for numbers, until no more connections are served.
 fn tell<D: Seen, R: Wait + Clock + Log>(
     rt: &R,
@@ -78,8 +65,9 @@ fn tell<D: Seen, R: Wait + Clock + Log>(
     answer_scrapes(rt, alloc, &watch, metrics, serving.stopping.said());
 }
 
-/// Takes the connections that are served, as [`accept_to_end`] does, and beside that answers who asks for numbers.
-pub(crate) fn accept_beside<D: Seen + Sync, R: Threads + Wait + Net + Clock + Log + Sync>(
+/// Takes the connections that are served, as [`accept_to_end`] does, and beside that answers who asks for numbers, until
+/// a stop is said and one more has come.
+pub(crate) fn accept_beside<D: Seen + Sync, R: Threads + Wait + Clock + Log + Sync>(
     rt: &R,
     alloc: Global,
     serving: &Serving<'_, '_, D>,
@@ -93,6 +81,6 @@ pub(crate) fn accept_beside<D: Seen + Sync, R: Threads + Wait + Net + Clock + Lo
     let ((), ()) = join(
         rt,
         || tell(rt, alloc, serving, metrics, inboxes),
-        || accept_and_let_go(rt, entrance, stopping, metrics, inboxes),
+        || accept_to_end(rt, entrance, stopping, inboxes),
     );
 }
