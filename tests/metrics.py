@@ -70,6 +70,15 @@ class Server:
     def stats(self):
         return json.loads(self.get("/stats")[3])
 
+    def stats_when(self, **wanted):
+        """What it tells once it tells this, or ten seconds later: a count follows what it counts."""
+        deadline = time.monotonic() + 10
+        while True:
+            stats = self.stats()
+            if time.monotonic() > deadline or all(stats[it] == value for it, value in wanted.items()):
+                return stats
+            time.sleep(0.05)
+
     def raw(self, text):
         """All that is answered to these bytes, up to the end of the connection."""
         connection, said = self.connect(self.metrics), b""
@@ -132,7 +141,7 @@ def same_numbers(name, server):
 
 def numbers(server):
     """What /stats says while queues, items, replies and connections change."""
-    stats = server.stats()
+    stats = server.stats_when(connections=1)
     expect("at the beginning", {**stats, "uptime": 0}, {
         "connections": 1, "journal": None, "queues": [], "ready": True, "replies": 0, "uptime": 0, "workers": 3})
     server.ask(op="create", queue="jobs", kind="log")
@@ -140,22 +149,17 @@ def numbers(server):
     for number in range(1, 6):
         server.ask(op="put", client=0, queue="jobs", number=number, value="00")
     server.ask(op="take", client=1, queue="jobs", number=1)
-    stats = server.stats()
+    stats = server.stats_when(replies=8)
     counts = {"clients": 2, "records": 8}
     expect("queues and their items", stats["queues"], [
         {"items": 4, "kind": "log", "queue": "jobs", **counts}, {"items": 0, "kind": "durable", "queue": "d-1", **counts}])
     expect("replies", stats["replies"], 8)
     same_numbers("two queues", server)
     others = [server.connect(server.port) for _ in range(5)]
-    deadline = time.monotonic() + 10
-    while server.stats()["connections"] != 6 and time.monotonic() < deadline:
-        time.sleep(0.05)
-    expect("open connections", server.stats()["connections"], 6)
+    expect("open connections", server.stats_when(connections=6)["connections"], 6)
     for it in others:
         it.close()
-    while server.stats()["connections"] != 1 and time.monotonic() < deadline:
-        time.sleep(0.05)
-    expect("connections that were closed", server.stats()["connections"], 1)
+    expect("connections that were closed", server.stats_when(connections=1)["connections"], 1)
     server.ask(op="crash")
     expect("down", [server.stats()[it] for it in ("ready", "queues")], [False, []])
     same_numbers("down", server)
