@@ -22,7 +22,7 @@ OF_JOURNAL = {"journal_bytes": "bytes", "journal_kept_bytes": "kept", "journal_b
 READS_IT = """
 import json, sys
 from prometheus_client.parser import text_string_to_metric_families as families
-found = [[f.name, f.type, f.documentation, [[s.name, s.labels, s.value] for s in f.samples]] for f in families(sys.stdin.read())]
+found = [[f.name, f.type, [[s.name, s.labels, s.value] for s in f.samples]] for f in families(sys.stdin.read())]
 json.dump(found, sys.stdout)
 """
 
@@ -70,6 +70,15 @@ class Server:
     def stats(self):
         return json.loads(self.get("/stats")[3])
 
+    def stats_when(self, **wanted):
+        """What it tells once it tells this, or ten seconds later: a count follows what it counts."""
+        deadline = time.monotonic() + 10
+        while True:
+            stats = self.stats()
+            if time.monotonic() > deadline or all(stats[it] == value for it, value in wanted.items()):
+                return stats
+            time.sleep(0.05)
+
     def raw(self, text):
         """All that is answered to these bytes, up to the end of the connection."""
         connection, said = self.connect(self.metrics), b""
@@ -94,7 +103,7 @@ def samples(text):
     if ran.returncode:
         raise ValueError(ran.stderr.strip().splitlines()[-1])
     families = json.loads(ran.stdout)
-    kinds = {name: kind for name, kind, _help, _samples in families}
+    kinds = {name: kind for name, kind, _samples in families}
     values = {(name, *sorted(labels.values())): value for *_f, rows in families for name, labels, value in rows}
     return kinds, values
 
@@ -126,13 +135,13 @@ def same_numbers(name, server):
         return judge(f"{name}: /metrics is read", error)
     expect(f"{name}: /metrics", values, wanted_samples(before))
     counters = {it for it, kind in kinds.items() if kind == "counter"}
-    wanted = {"wistaku_replies"} | ({"wistaku_journal_batches", "wistaku_journal_failures"} if before["journal"] else set())
-    expect(f"{name}: counters", counters, wanted)
+    of_journal = {"wistaku_journal_batches", "wistaku_journal_failures"} if before["journal"] else set()
+    expect(f"{name}: counters", counters, {"wistaku_replies"} | of_journal)
 
 
 def numbers(server):
     """What /stats says while queues, items, replies and connections change."""
-    stats = server.stats()
+    stats = server.stats_when(connections=1)
     expect("at the beginning", {**stats, "uptime": 0}, {
         "connections": 1, "journal": None, "queues": [], "ready": True, "replies": 0, "uptime": 0, "workers": 3})
     server.ask(op="create", queue="jobs", kind="log")
@@ -140,22 +149,18 @@ def numbers(server):
     for number in range(1, 6):
         server.ask(op="put", client=0, queue="jobs", number=number, value="00")
     server.ask(op="take", client=1, queue="jobs", number=1)
-    stats = server.stats()
+    stats = server.stats_when(replies=8)
     counts = {"clients": 2, "records": 8}
     expect("queues and their items", stats["queues"], [
-        {"items": 4, "kind": "log", "queue": "jobs", **counts}, {"items": 0, "kind": "durable", "queue": "d-1", **counts}])
+        {"items": 4, "kind": "log", "queue": "jobs", **counts},
+        {"items": 0, "kind": "durable", "queue": "d-1", **counts}])
     expect("replies", stats["replies"], 8)
     same_numbers("two queues", server)
     others = [server.connect(server.port) for _ in range(5)]
-    deadline = time.monotonic() + 10
-    while server.stats()["connections"] != 6 and time.monotonic() < deadline:
-        time.sleep(0.05)
-    expect("open connections", server.stats()["connections"], 6)
+    expect("open connections", server.stats_when(connections=6)["connections"], 6)
     for it in others:
         it.close()
-    while server.stats()["connections"] != 1 and time.monotonic() < deadline:
-        time.sleep(0.05)
-    expect("connections that were closed", server.stats()["connections"], 1)
+    expect("connections that were closed", server.stats_when(connections=1)["connections"], 1)
     server.ask(op="crash")
     expect("down", [server.stats()[it] for it in ("ready", "queues")], [False, []])
     same_numbers("down", server)
@@ -175,7 +180,8 @@ def refused(server):
     head = b"GET /stats HTTP/1.1\r\n"
     for name, text, status in (
             ("no HTTP", b"hello\n\r\n", b"400"), ("no host", head + b"\r\n", b"400"),
-            ("two hosts", head + b"Host: a\r\nHost: b\r\n\r\n", b"400"), ("a bare line feed", head[:-2] + b"\n\n", b"400"),
+            ("two hosts", head + b"Host: a\r\nHost: b\r\n\r\n", b"400"),
+            ("a bare line feed", head[:-2] + b"\n\n", b"400"),
             ("many lines", head + b"Host: a\r\n" + b"a: b\r\n" * 80 + b"\r\n", b"431"),
             ("a long path", b"GET /" + b"a" * 20_000, b"414")):
         said = server.raw(text)
@@ -221,7 +227,8 @@ def table(server):
     rows = [line.split() for line in ran.stdout.splitlines()]
     stats = server.stats()
     expect("pqd stats: the server", [row for row in rows[:6] if row[0] != "up"], [
-        ["state", "ready"], ["connections", "1"], ["workers", "3"], ["replies", str(stats["replies"])], ["journal", "none"]])
+        ["state", "ready"], ["connections", "1"], ["workers", "3"], ["replies", str(stats["replies"])],
+        ["journal", "none"]])
     expect("pqd stats: queues", rows[7:9], [
         ["queue", "kind", "items", "clients", "records"], ["jobs", "log", "4", "2", "8"]])
     with subprocess.Popen([*words, "--watch"], stdout=subprocess.PIPE, text=True) as watching:
@@ -253,7 +260,8 @@ def with_journal(sync, folder):
         server.ask(op="put", client=0, queue="a", number=number, value="0a")
     time.sleep(1.5 if sync == "second" else 0)
     size, stats = os.path.getsize(journal), server.stats()["journal"]
-    expect(f"{sync}: bytes", (stats["sync"], stats["bytes"], stats["failed"], stats["failures"]), (sync, size, False, 0))
+    found = stats["sync"], stats["bytes"], stats["failed"], stats["failures"]
+    expect(f"{sync}: bytes", found, (sync, size, False, 0))
     judge(f"{sync}: batches", "" if 20 <= stats["batches"] <= 25 else stats)
     judge(f"{sync}: synced", "" if (stats["kept"] == size) == (sync != "never") else f"{stats} of {size}")
     same_numbers(sync, server)

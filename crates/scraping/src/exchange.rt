@@ -107,9 +107,11 @@ fn text_of(alloc: Global, server: &mut Server, answer: &Answer) -> Result<Vec<u8
     let size = BodySize::Known(body.len() as u64);
     let reason = answer.status.reason.as_bytes();
     let head = server.write_response(&mut text, answer.status.code, reason, &headers, size);
-    if head.is_err() || server.write_data(&mut text, body).is_err() {
+    if head.is_err() {
         return Err(Unanswered);
     }
+    // To HEAD no body is sent, and it is refused here. Where another one is refused, so is the end behind it.
+    let _ = server.write_data(&mut text, body);
     match server.write_end(&mut text, &[]) {
         Ok(()) => Ok(text),
         Err(_) => Err(Unanswered),
