@@ -67,12 +67,12 @@ class Members:
     def answers(self, name):
         """Whether a member knows what was answered last, which it has to ask a majority for."""
         try:
-            asked(self.clients[name], "/v3/kv/range", {"key": "YQ=="}, 2)
+            asked(self.clients[name], "/v3/kv/range", {"key": "YQ=="})
             return True
         except (OSError, ValueError):
             return False
 
-    def wait(self, seconds=180):
+    def wait(self, seconds=600):
         """Until each of them answers. Whether it does."""
         until = time.monotonic() + seconds
         while time.monotonic() < until:
@@ -139,7 +139,7 @@ class Members:
 
     def emptied(self, name, _):
         """The folder of one is lost. It leaves, and another one comes in its place, with nothing."""
-        if not self.wait(30):
+        if not self.wait(60):
             return False
         found = [it["ID"] for it in self.listed() if it.get("name") == f"m{name}"]
         if not found:
@@ -151,8 +151,13 @@ class Members:
         until_done(lambda: asked(other, "/v3/cluster/member/add", {"peerURLs": [self.peer_address(name)]}), "exists")
         self.start(name, "existing")
         if not self.wait():
-            raise RuntimeError(f"member {name}, begun anew, does not answer")
+            raise RuntimeError(f"member {name}, begun anew, does not answer: {self.why(name)}")
         return True
+
+    def why(self, name):
+        """What is known of a member that does not answer: its status, if it has ended, and what it said last."""
+        with open(f"{self.folder}/log{name}", encoding="utf-8", errors="replace") as it:
+            return f"status {self.processes[name].poll()}; {it.readlines()[-1:]}"
 
     def heal(self):
         self.partings.heal()
