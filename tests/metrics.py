@@ -42,7 +42,7 @@ class Server:
         how = {"stdout": subprocess.PIPE, "stderr": subprocess.PIPE, "text": True}
         self.process = subprocess.Popen([PQD, "serve", "--port", "0", "--metrics", "0", *words], **how)
         self.port, self.metrics = (self.port_in(it) for it in ("listening", "metrics"))
-        self.lines = self.connect(self.port).makefile("rw", buffering=1)
+        self.lines = self.connect(self.port).makefile("rw")
 
     def port_in(self, word):
         line = self.process.stdout.readline()
@@ -56,6 +56,7 @@ class Server:
 
     def ask(self, **request):
         self.lines.write(json.dumps(request) + "\n")
+        self.lines.flush()
         return json.loads(self.lines.readline())
 
     def get(self, path, method="GET"):
@@ -93,6 +94,7 @@ class Server:
     def stop(self):
         """The status with which it ends, and what it said meanwhile."""
         self.lines.write('{"op":"stop"}\n')
+        self.lines.flush()
         said = self.process.communicate(timeout=30)
         return self.process.returncode, said
 
@@ -259,11 +261,16 @@ def with_journal(sync, folder):
     for number in range(1, 21):
         server.ask(op="put", client=0, queue="a", number=number, value="0a")
     time.sleep(1.5 if sync == "second" else 0)
-    size, stats = os.path.getsize(journal), server.stats()["journal"]
-    found = stats["sync"], stats["bytes"], stats["failed"], stats["failures"]
-    expect(f"{sync}: bytes", found, (sync, size, False, 0))
+    stats = server.stats()["journal"]
+    with open(journal, "rb") as it:
+        text = it.read()
+    # Behind the journal's bytes the file has room, which is zeros.
+    bytes_there = len(text.rstrip(b"\0"))
+    judge(f"{sync}: bytes", "" if bytes_there <= stats["bytes"] < bytes_there + 8 else f"{stats} and {bytes_there} there")
+    found = stats["sync"], stats["failed"], stats["failures"]
+    expect(f"{sync}: how it goes", found, (sync, False, 0))
     judge(f"{sync}: batches", "" if 20 <= stats["batches"] <= 25 else stats)
-    judge(f"{sync}: synced", "" if (stats["kept"] == size) == (sync != "never") else f"{stats} of {size}")
+    judge(f"{sync}: synced", "" if (stats["kept"] == stats["bytes"]) == (sync != "never") else stats)
     same_numbers(sync, server)
     expect(f"{sync}: its end", server.stop()[0], 0)
 
