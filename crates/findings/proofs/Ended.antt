@@ -8,7 +8,7 @@ use Rattle.events.specs.declared.event.Event.{Event}
 use Rattle.events.specs.declared.event.Event.TheVariants.{Return as return_event}
 use Rattle.events.specs.declared.event.Entry.{Entry}
 use Rattle.events.specs.Explains.{IsAnswered}
-use Rattle.events.specs.History.{BeginsAt, IsEnd, Precedes}
+use Rattle.events.specs.History.{BeginsAt, IsEnd, Precedes, ReturnAt}
 use Rattle.events.specs.Orders.{IsTakenAs}
 use Rattle.findings.specs.Facts.{HasEnd, HasNone}
 use Rattle.findings.specs.Findings.{IsOverBy, IsReturned}
@@ -40,6 +40,12 @@ pub over_from : (events : List Event) (p e t : ℕ) → HasEnd events p e → e 
 over_from events p e t has le =
     record { client = has.client; begins = has.begins; end = e; ends = has.ends; by = le }
 
+pub over_end : (events : List Event) (p e t : ℕ) → HasEnd events p e → IsOverBy events p t → e ≤ t
+over_end events p e t has over =
+    let other : HasEnd events p over.end = record { client = over.client; begins = over.begins; ends = over.ends } in
+    let same : e ≡ over.end = one_ending events p e over.end has other in
+    omega (arith, over.by)
+
 pub over_none : (events : List Event) (p t : ℕ) → HasNone events p → IsOverBy events p t → ⊥
 over_none events p t has over =
     has.none over.end (record { client = over.client; begins = over.begins; ends = over.ends })
@@ -48,9 +54,32 @@ pub precedes_from : (events : List Event) (p e q : ℕ) → HasEnd events p e �
 precedes_from events p e q has lt =
     record { client = has.client; begins = has.begins; end = e; ends = has.ends; before = lt }
 
+pub precedes_end : (events : List Event) (p e q : ℕ) → HasEnd events p e → Precedes events p q → e < q
+precedes_end events p e q has before =
+    let other : HasEnd events p before.end =
+    record { client = before.client; begins = before.begins; ends = before.ends } in
+    let same : e ≡ before.end = one_ending events p e before.end has other in
+    omega (arith, before.before)
+
 pub precedes_none : (events : List Event) (p q : ℕ) → HasNone events p → Precedes events p q → ⊥
 precedes_none events p q has before =
     has.none before.end (record { client = before.client; begins = before.begins; ends = before.ends })
+
+-- a call whose end is a Return
+pub returned_from : (events : List Event) (p e : ℕ) (who : Client) (reply : Reply) → HasEnd events p e
+    → slice_get events e ≡ Some (return_event who reply) → IsReturned events p reply
+returned_from events p e who reply has at = record {
+  client = has.client;
+  begins = has.begins;
+  end = e;
+  ends = has.ends;
+  returns =
+      ⊎_elim
+      (λ returned. let clients : who ≡ has.client = cc (at, returned.1) in
+      subst (λ (c : Client). ReturnAt events e c reply) clients at)
+      (λ crash. cc (at, crash))
+      has.ends.ends;
+}
 
 -- it returned one reply
 pub one_return : (events : List Event) (p : ℕ) (one two : Reply) → IsReturned events p one → IsReturned events p two

@@ -1,17 +1,18 @@
 -- Where calls end: at each place, and one place before.
-use Rattle.std.proofs.Common.{ℕ, ◌≡◌, ◌≢◌, ◌<◌, ◌≤◌, ◌+◌, List, Some, slice_get, get_or, set, length, refl, ap, arith, sym}
-use Rattle.std.proofs.Common.{◌∙◌, subst, ⊎_elim, get_or-set_same, get_or-set_other}
+use Rattle.std.proofs.Common.{ℕ, ◌≡◌, ◌≢◌, ◌<◌, ◌≤◌, ◌+◌, List, Some, slice_get, get_or, set, length, min, refl, ap, arith, sym}
+use Rattle.std.proofs.Common.{◌∙◌, subst, inl, inr, ⊎_elim, get_or-set_same, get_or-set_other}
 use Rattle.std.proofs.Math.ListN.{length-set}
 use Rattle.std.specs.Prelude.{⊤}
 use Rattle.std.proofs.lemmas.Bool.{cases_lt, cases_eq}
 use Rattle.std.proofs.lemmas.Option.{same_Some, slice_get_within, slice_get-get_or, get_or_from_slice_get}
 use Rattle.words.specs.declared.call.Call.{Call}
 use Rattle.words.specs.declared.call.Client.{Client}
+use Rattle.words.specs.declared.call.Reply.{Reply}
 use Rattle.events.specs.declared.event.Event.{Event}
 use Rattle.events.specs.declared.event.Event.TheVariants.{Call as call_event, Return as return_event}
 use Rattle.events.specs.declared.event.Event.TheVariants.{Crash as crash_event, Ready as ready_event}
-use Rattle.events.specs.History.{CallAt, EndsAt}
-use Rattle.findings.specs.Ends.{AreBelow, AreEndsFrom, IsBelow, IsNextEnd}
+use Rattle.events.specs.History.{CallAt, EndsAt, ReturnAt}
+use Rattle.findings.specs.Ends.{AreBelow, AreEndsFrom, AreNextEnds, IsBelow, IsNextEnd}
 use Rattle.findings.specs.Facts.{AreEnds, IsEndOf}
 
 -- what stands at a place stands there alone
@@ -34,6 +35,20 @@ ends_it events p event client at ends =
     (λ crash. subst (λ (e : Event). EndsIt e client) (same_event events p _ event crash at) tt)
     ends
 
+-- one place before: something else stands there, or an end
+next_other : (events : List Event) (client : Client) (p t : ℕ) (event : Event) → slice_get events p ≡ Some event
+    → (EndsIt event client → ⊥) → IsNextEnd events client (p + 1) t → IsNextEnd events client p t
+next_other events client p t event at other next = record {
+  from = omega (arith, next.from);
+  first = λ k low high ends. ⊎_elim
+      (λ (later : p < k). next.first k (omega arith) high ends)
+      (λ (le : k ≤ p). let here : k ≡ p = omega arith in
+      other (ends_it events p event client at (subst (EndsAt events client) here ends)))
+      (cases_lt p k);
+  ends = next.ends;
+  within = next.within;
+}
+
 next_here : (events : List Event) (client : Client) (p t : ℕ) → t ≡ p → p < length events
     → EndsAt events client p → IsNextEnd events client p t
 next_here events client p t same lt ends = record {
@@ -47,6 +62,65 @@ next_here events client p t same lt ends = record {
 pub next_at : (events : List Event) (client : Client) (p t u : ℕ) → t ≡ u → IsNextEnd events client p t
     → IsNextEnd events client p u
 next_at events client p t u same next = subst (IsNextEnd events client p) same next
+
+-- so it is of each client, after something that ends no call
+pub nexts_other : (events : List Event) (p : ℕ) (returns : List ℕ) (crash : ℕ) (event : Event)
+    → slice_get events p ≡ Some event → ((client : Client) → EndsIt event client → ⊥)
+    → AreNextEnds events (p + 1) returns crash → AreNextEnds events p returns crash
+nexts_other events p returns crash event at other next = record {
+  each = λ client d lt. next_other events client p _ event at (other client) (next.each client d lt);
+}
+
+-- after a Return
+pub nexts_return : (events : List Event) (p : ℕ) (returns : List ℕ) (crash : ℕ) (who : Client) (reply : Reply)
+    → slice_get events p ≡ Some (return_event who reply) → p < length events → who.0 < length returns
+    → AreNextEnds events (p + 1) returns crash → AreNextEnds events p (set returns who.0 p) crash
+nexts_return events p returns crash who reply at lt below next = record {
+  each = λ client d small.
+      let was : client.0 < length returns = omega (arith, small, length-set returns who.0 p) in
+      let old : IsNextEnd events client (p + 1) (min (get_or returns client.0 d) crash) = next.each client d was in
+      ⊎_elim
+      (λ (same : client.0 ≡ who.0).
+      let now : get_or (set returns who.0 p) client.0 d ≡ p =
+      ap (λ (n : ℕ). get_or (set returns who.0 p) n d) same ∙ get_or-set_same returns who.0 p d below in
+      let high : p + 1 ≤ crash = omega (arith, old.from) in
+      let clients : who ≡ client = ap (λ (n : ℕ). record { 0 = n }) (sym same) in
+      let ends : EndsAt events client p =
+      inl (reply, subst (λ (c : Client). ReturnAt events p c reply) clients at) in
+      next_here events client p _ (omega (arith, now, high)) lt ends)
+      (λ (differ : client.0 ≢ who.0).
+      let now : get_or (set returns who.0 p) client.0 d ≡ get_or returns client.0 d =
+      get_or-set_other returns who.0 client.0 p d differ in
+      let kept : IsNextEnd events client p (min (get_or returns client.0 d) crash) =
+      next_other events client p _ (return_event who reply) at
+      (λ (clients : who ≡ client). differ (ap (λ (c : Client). c.0) (sym clients))) old in
+      next_at events client p _ _ (ap (λ (n : ℕ). min n crash) (sym now)) kept)
+      (cases_eq client.0 who.0);
+}
+
+-- after a Crash
+pub nexts_crash : (events : List Event) (p : ℕ) (returns : List ℕ) (crash : ℕ)
+    → slice_get events p ≡ Some crash_event → p < length events
+    → AreNextEnds events (p + 1) returns crash → AreNextEnds events p returns p
+nexts_crash events p returns crash at lt next = record {
+  each = λ client d small.
+      let old : IsNextEnd events client (p + 1) (min (get_or returns client.0 d) crash) = next.each client d small in
+      next_here events client p _ (omega (arith, old.from)) lt (inr at);
+}
+
+-- behind all events nothing ends a call
+pub nexts_past : (events : List Event) (returns : List ℕ) (n : ℕ) → n ≡ length events
+    → ((k : ℕ) (d : ℕ) → k < length returns → get_or returns k d ≡ n) → AreNextEnds events n returns n
+nexts_past events returns n is all = record {
+  each = λ client d small.
+      let here : get_or returns client.0 d ≡ n = all client.0 d small in
+      record {
+        from = omega (arith, here);
+        first = λ k low high ends. absurd (omega (arith, here));
+        ends = λ less. absurd (omega (arith, here));
+        within = omega (arith, here);
+      };
+}
 
 -- the end of a call, by the next end of its client
 pub end_of_call : (events : List Event) (p number t : ℕ) (client : Client) (call : Call)
@@ -76,6 +150,17 @@ end_of_call events p number t client call at next = record {
     ends_within events client e ends =
         ⊎_elim (λ returned. slice_get_within events e _ returned.1) (λ crash. slice_get_within events e _ crash) ends
 
+-- what is no Call does not end
+pub end_of_other : (events : List Event) (p t : ℕ) (event : Event) → slice_get events p ≡ Some event
+    → ((client : Client) (number : ℕ) (call : Call) → event ≡ call_event client number call → ⊥)
+    → length events ≤ t → IsEndOf events p t
+end_of_other events p t event at other le = record {
+  some = λ lt. absurd (omega arith);
+  none = λ _. record {
+    none = λ e has. other has.client _ _ (same_event events p _ _ at has.begins.1.1);
+  };
+}
+
 -- ends from one place before
 pub ends_more : (events : List Event) (p : ℕ) (ends : List ℕ) (e : ℕ) → p < length ends
     → IsEndOf events p e → AreEndsFrom events (p + 1) ends → AreEndsFrom events p (set ends p e)
@@ -95,6 +180,17 @@ ends_more events p ends e lt is so_far = record {
       so_far.each q f (omega arith) (slice_get-get_or ends q f was ∙ ap Some old))
       (cases_eq q p);
 }
+
+-- ends behind all events, and from the first place on
+pub ends_past : (events : List Event) (ends : List ℕ) (n : ℕ) → n ≡ length events → length ends ≡ n
+    → AreEndsFrom events n ends
+ends_past events ends n is count = record {
+  count = count ∙ is;
+  each = λ q e low at. let lt : q < length ends = slice_get_within ends q e at in absurd (omega (arith, count));
+}
+
+pub ends_all : (events : List Event) (ends : List ℕ) → AreEndsFrom events 0 ends → AreEnds events ends
+ends_all events ends from = record { count = from.count; each = λ p e at. from.each p e (omega arith) at }
 
 -- clients of one event more are below a number
 below_larger : (event : Event) (n m : ℕ) → n ≤ m → IsBelow n event → IsBelow m event

@@ -279,6 +279,19 @@ stands_return events p who reply at way up = record {
   number = λ number client other at_too. cc (at, at_too);
 }
 
+pub stands_crash : (events : List Event) (p : ℕ) → slice_get events p ≡ Some crash_event → StandsRightly events p
+stands_crash events p at = record {
+  may = λ event at_too. subst (MayStandAmongAny events p) (same_event events p _ event at at_too) tt;
+  number = λ number client other at_too. cc (at, at_too);
+}
+
+pub stands_ready : (events : List Event) (p : ℕ) (told : List Told) → slice_get events p ≡ Some (ready_event told)
+    → StandsRightly events p
+stands_ready events p told at = record {
+  may = λ event at_too. subst (MayStandAmongAny events p) (same_event events p _ event at at_too) tt;
+  number = λ number client other at_too. cc (at, at_too);
+}
+
 -- what each place of a history says says it of all
 pub recorded_from : (events : List Event) (learnt : List (Option Outcome))
     → ((p : ℕ) → p < length events → StandsRightly events p)

@@ -1,10 +1,10 @@
 -- An order by the places of its calls.
 use Rattle.std.proofs.Common.{ℕ, ◌≡◌, ◌≢◌, ◌<◌, ◌≤◌, ◌+◌, List, Option, Some, None, slice_get, get_or, length, take, arith, refl}
-use Rattle.std.proofs.Common.{ap, sym, ◌∙◌, subst, ⊎_elim, get_or-set_same, get_or-set_other}
+use Rattle.std.proofs.Common.{ap, sym, ◌∙◌, subst, ⊎_elim, get_or-set_same, get_or-set_other, replicate}
 use Rattle.std.proofs.Math.ListN.{set, length-set}
 use Rattle.std.specs.Prelude.{EachIndex, IfNone, IfSome, IsSome}
 use Rattle.std.proofs.lemmas.Bool.{cases_lt, cases_eq}
-use Rattle.std.proofs.lemmas.List.{get_or-take, length-take}
+use Rattle.std.proofs.lemmas.List.{get_or-take, get_or-replicate, length-replicate, length-take}
 use Rattle.std.proofs.lemmas.Option.{slice_get_within, slice_get-get_or, get_or_from_slice_get}
 use Rattle.words.specs.declared.call.Reply.{Reply}
 use Rattle.events.specs.declared.event.Event.{Event}
@@ -48,6 +48,18 @@ all_places order p (k, x, lt, is, place) = record {
   entry = x;
   at = slice_get-get_or order k x lt ∙ ap Some is;
   same = place;
+}
+
+-- a table of no entry
+pub table_none : (order : List Entry) (places : ℕ) → IsTableOf order 0 (replicate places (length order))
+table_none order places = record {
+  some = λ p k at lt.
+      let within : p < length (replicate places (length order)) = slice_get_within _ p k at in
+      let small : p < places = omega (arith, within, length-replicate places (length order)) in
+      let is : length order ≡ k = sym (get_or-replicate places p (length order) k small)
+      ∙ get_or_from_slice_get (replicate places (length order)) p k k at in
+      absurd (omega (arith, is));
+  none = λ p k at le has. absurd (omega (arith, has.before));
 }
 
 -- a table with one entry more

@@ -119,6 +119,10 @@ pub put_before_here : (events : List Event) (base : List Value) (order : List En
 put_before_here events base order k i value lt within put =
     put_longer events base order (k + 1) i _ value (omega arith) within (put_here events base order k value put)
 
+pub base_before : (events : List Event) (base : List Value) (order : List Entry) (i a : ℕ) (value : Value)
+    → slice_get base a ≡ Some value → slice_get (put_before events base order i) a ≡ Some value
+base_before events base order i a value at = get_longer base (values_of_order events (take i order)) a value at
+
 -- an entry before i put the value at this place
 pub record IsPutBefore (events : List Event) (base : List Value) (order : List Entry) (i a : ℕ)
     (value : Value) : Type 0 where

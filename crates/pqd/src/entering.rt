@@ -32,7 +32,7 @@ pub(crate) fn here(port: u16) -> SocketAddr {
 }
 
 /// Where connections come in that are asked for so. Its secret is read first.
-pub(crate) fn bound<'a>(rt: &HostRuntime, asked: Listening<'a>) -> Result<Bound<'a>, Fault> {
+pub(crate) fn bind<'a>(rt: &HostRuntime, asked: Listening<'a>) -> Result<Bound<'a>, Fault> {
     let secret = match asked.secret {
         Some(path) => Some(secret::read(rt, path)?),
         None => None,

@@ -4,7 +4,7 @@ ghost use Rattle.std.specs.Prelude.{◌≡◌, IfOk};
 ghost use Rattle.opening.specs.Sessions.{IsUncalled};
 ghost use Rattle.pqd.specs.Keeping.{GoesOnFrom, GoesOnFromFiles, policy_for};
 
-use crate::entering::bound;
+use crate::entering::bind;
 use crate::{Fault, broker_for, fill_places, service_of};
 use devices::{CountedReader, CountedWriter};
 use journal_file::Storage;
@@ -169,7 +169,7 @@ pub(crate) fn serve<T: Threads + Wait + Net + Log + Clock + Sync>(
         Mode::Pipe => serve_input(threads, rt, kept),
         Mode::Serve(at) => {
             let _places = fill_places(rt);
-            let bound = bound(rt, at)?;
+            let bound = bind(rt, at)?;
             bound.tell(rt)?;
             serve_connections(threads, rt, service_of(at, asked), kept, &bound.entrance())
         }

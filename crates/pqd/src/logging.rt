@@ -5,7 +5,7 @@ ghost use Rattle.opening.specs.Sessions.{IsUncalled};
 ghost use Rattle.lasting.specs.declared.policy.Policy.TheVariants.{Always};
 ghost use Rattle.pqd.specs.Keeping.{GoesOnFromText};
 
-use crate::entering::bound;
+use crate::entering::bind;
 use crate::keeping::{Kept, broker_on, serve_connections, serve_input};
 use crate::standby::wait_for;
 use crate::{Fault, broker_for, fill_places, service_of};
@@ -203,7 +203,7 @@ fn serve_logged<T: Threads + Wait + Net + Log + Clock + Sync>(
     at: Listening<'_>,
 ) -> Result<Vec<u8>, Fault> {
     // Whoever stands by finds the port taken before the log is, and so does not take it meanwhile.
-    let bound = bound(rt, at)?;
+    let bound = bind(rt, at)?;
     let owner = server_name(rt, journal, bound.address)?;
     let kept = kept_of(rt, asked, log, u64::from(journal.patience), &owner)?;
     bound.tell(rt)?;

@@ -17,7 +17,7 @@ mod table;
 use command_lines::command_line;
 use devices::{CountedReader, CountedWriter};
 use door::Unfit;
-use entering::bound;
+use entering::bind;
 use etcd_log::Undone;
 use log::Log;
 use named::Broker;
@@ -159,7 +159,7 @@ fn serve_connections<T: Threads + Wait + Net + Log + Clock + Sync>(
     requires { IsUncalled broker }
 {
     let _places = fill_places(rt);
-    let bound = bound(rt, at)?;
+    let bound = bind(rt, at)?;
     bound.tell(rt)?;
     Ok(net(threads, rt.alloc(), broker, service, &bound.entrance())?)
 }

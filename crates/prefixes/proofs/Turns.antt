@@ -1,7 +1,7 @@
 -- What one step more adds.
 use Rattle.std.proofs.Common.{ℕ, ◌≡◌, ◌<◌, ◌≤◌, ◌+◌, ◌++◌, List, [], ◌∷◌, Bool, true, false, Option, Some, None}
 use Rattle.std.proofs.Common.{slice_get, get_or, set, length, take, refl, ap, arith, sym, ◌∙◌, ⊎_elim, ◌||◌}
-use Rattle.std.specs.Prelude.{◌≢◌, map, ◌==◌}
+use Rattle.std.specs.Prelude.{◌≢◌, map, ◌==◌, if◌then◌else◌}
 use Rattle.std.specs.List.{flat_map}
 use Rattle.std.specs.Option.{option_or}
 use Rattle.std.proofs.lemmas.Bool.{cases_eq, eq-eqb, ne_eqb}
@@ -101,6 +101,19 @@ fate_kept recording call act fate refusal outcome =
 abbrev IsNoNews : Recording → Act → ℕ → Type 0
 IsNoNews recording act call =
     (is_refusal call act ≡ false) × (outcome_said recording call act ≡ None)
+
+-- a table after a step that says nothing of any call
+pub table_kept : (recording : Recording) (steps : List Step) (i : ℕ) (d : Step) (act : Act) (fates : List Fate)
+    → i < length steps → (get_or steps i d).act ≡ act → ((call : ℕ) → IsNoNews recording act call)
+    → AreFatesOf recording (take i steps) fates → AreFatesOf recording (take (i + 1) steps) fates
+table_kept recording steps i d act fates within is nothing table = record {
+  count = table.count;
+  each = λ call lt.
+      let more = fate_more recording steps i call d act within is in
+      let kept = fate_kept recording call act (fate_of recording (take i steps) call) (nothing call).0
+      (nothing call).1 in
+      table.each call lt ∙ ap Some (sym (more ∙ kept));
+}
 
 -- and after one that says something of one call
 table_set : (recording : Recording) (steps : List Step) (i : ℕ) (d : Step) (act : Act) (fates : List Fate)
