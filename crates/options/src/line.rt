@@ -10,7 +10,9 @@ ghost use Rattle.options.specs.Asked.{AsksFor, CommandAsks, CommandFits, FitsAll
 use crate::address::address;
 use crate::asked::{Asked, Journaling, Listening, Mode, Options, Printing, Syncing};
 use crate::journaling::{is_set, journaling};
-use crate::limits::{CLIENTS, CONNECTIONS, IDLE, METRICS, PORT, RECORDS, STATS_PORT, WAITING_WORKERS, WORKERS};
+use crate::limits::{
+    CLIENTS, CONNECTIONS, IDLE, METRICS, PORT, RECORDS, STATS_PORT, WAITING_WORKERS, WORKERS,
+};
 use crate::number::{Misfit, NumberOption};
 use clap::ArgMatches;
 

@@ -23,7 +23,9 @@ fn numbers_at(rt: &HostRuntime, port: u16) -> Result<Value, Fault> {
     let Ok(mut stream) = TcpStream::connect_timeout(rt, &here(port), most) else {
         return Err(Fault::Untold);
     };
-    if stream.set_read_timeout(Some(most)).is_err() || stream.set_write_timeout(Some(most)).is_err() {
+    if stream.set_read_timeout(Some(most)).is_err()
+        || stream.set_write_timeout(Some(most)).is_err()
+    {
         return Err(Fault::Untold);
     }
     let Some(text) = ask_stats(rt.alloc(), &mut stream, "127.0.0.1") else {

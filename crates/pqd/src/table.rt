@@ -38,7 +38,10 @@ fn append_server(table: &mut String, numbers: &Value) -> Result<(), AllocError> 
     let connections = number(numbers, "connections");
     let workers = number(numbers, "workers");
     let replies = number(numbers, "replies");
-    write!(table, "state        {state}\nup           {uptime} s\nconnections  {connections}\n")?;
+    write!(
+        table,
+        "state        {state}\nup           {uptime} s\nconnections  {connections}\n"
+    )?;
     write!(table, "workers      {workers}\nreplies      {replies}\n")
 }
 
@@ -49,8 +52,15 @@ fn append_journal(table: &mut String, journal: &Value) -> Result<(), AllocError>
     let kept = number(journal, "kept");
     let batches = number(journal, "batches");
     let failures = number(journal, "failures");
-    let failed = if is_so(journal, "failed") { ", failed" } else { "" };
-    write!(table, "journal      {sync}, {bytes} bytes, {kept} synced, {batches} batches")?;
+    let failed = if is_so(journal, "failed") {
+        ", failed"
+    } else {
+        ""
+    };
+    write!(
+        table,
+        "journal      {sync}, {bytes} bytes, {kept} synced, {batches} batches"
+    )?;
     write!(table, ", {failures} failures{failed}\n")
 }
 
@@ -61,7 +71,10 @@ fn append_queue(table: &mut String, queue: &Value) -> Result<(), AllocError> {
     let items = number(queue, "items");
     let clients = number(queue, "clients");
     let records = number(queue, "records");
-    write!(table, "{name:<16}  {kind:<7}  {items:>7}  {clients:>7}  {records:>7}\n")
+    write!(
+        table,
+        "{name:<16}  {kind:<7}  {items:>7}  {clients:>7}  {records:>7}\n"
+    )
 }
 
 /// What is told of queues, below what it is.

@@ -90,7 +90,7 @@ pub left_served : (first last : Sessioned) (clients workers : ℕ) (sure : List 
 left_served first last clients workers sure bytes j all opened known heard since =
     let left = since.left.image in
     let on : GoesOnLater first left.last =
-        record { numbers = left.goes_on; ended = left.rotated; came = left.came } in
+    record { numbers = left.goes_on; ended = left.rotated; came = left.came } in
     record {
       first = first;
       opened = opened;
