@@ -38,7 +38,7 @@ pub record HasWorked (told : Chronicled (Request × Answer) → List (Request ×
   pub turn : IsServedInTurn clients first (told served) up_to
   pub later : GoesOnLater up_to last
 
--- So many workers served so, each these turns.
+-- So many workers served so, each these turns: there are as many such lists.
 pub record HaveWorked (told : Chronicled (Request × Answer) → List (Request × Answer)) (clients : ℕ)
     (first last : Sessioned) (workers : ℕ) : Type 0 where
   pub served : List (Chronicled (Request × Answer))
@@ -65,14 +65,14 @@ abbrev pub IsSettledBy : ℕ → Sessioned → Option Sessioned → List (Reques
 IsSettledBy clients first (Some sure) settled = IsServedInTurn clients first settled sure
 IsSettledBy clients first None settled = settled ≡ []
 
--- The image of the last session, which goes on from all that so many workers answered.
+-- The image of the last session, which goes on from what so many workers answered.
 pub record IsImageServed (broker : Brokered) (workers : ℕ) (bytes : List ℕ) : Type 0 where
   pub first : Sessioned
   pub opened : IsOpenedOver broker first
   pub left : IsImageAfter first bytes
   pub worked : HaveWorked all_told broker.counts.clients first left.last workers
 
--- The same, and its journal. It goes on from all that they settled, which each did before it wrote what tells of it.
+-- The same, and its journal. It goes on from what they settled, which each did before it wrote what tells of it.
 pub record IsLeftServed (broker : Brokered) (workers : ℕ) (bytes : List ℕ) (j : OnDevice) : Type 0 where
   pub first : Sessioned
   pub opened : IsOpenedOver broker first

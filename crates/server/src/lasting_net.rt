@@ -158,7 +158,7 @@ pub fn net_lasting<S: Storage + Drop + Send, R: Threads + Wait + Net + Clock + L
     entrance: &Entrance<'_>,
 ) -> Result<Left<S>, Unserved>
     requires { IsUncalled broker }
-    // The session whose image and journal are left goes on from all that the workers settled, each request in turn.
+    // The session whose image and journal are left goes on from what as many workers settled, each request in turn.
     ensures { IfOk result (λ left. IsLeftServed broker (max service.workers 1) left.image.items left.journal) }
 {
     let noted = begin_noting(alloc, broker)?;

@@ -367,7 +367,7 @@ pub fn net<R: Threads + Wait + Net + Clock + Log + Sync>(
     entrance: &Entrance<'_>,
 ) -> Result<Vec<u8>, Refusal>
     requires { IsUncalled broker }
-    // The session whose image is left goes on from all that the workers answered, each request in turn.
+    // The session whose image is left goes on from what as many workers answered, each request in turn.
     ensures image { IfOk result (λ bytes. IsImageServed broker (max service.workers 1) bytes.items) }
     ensures errors { IfErr result IsBusyOrNoMemory }
 {
